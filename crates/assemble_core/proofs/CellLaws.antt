@@ -1,0 +1,51 @@
+-- The step of one cell.
+use Rattle.std.proofs.Common.{◌≡◌, sym, ap, refl, ℕ, ◌<◌, ◌≤◌, ◌^◌, List, [], ◌∷◌, length, ℤ, pos, arith, zero, suc}
+use Rattle.std.specs.Prelude.{All, IsOk, Ok, Err}
+use Rattle.std.specs.declared.result.Result.{Result}
+use Rattle.std.specs.declared.option.Option.{Option}
+use Rattle.fem_fixed.specs.declared.mesh.Point.{Point}
+use Rattle.fem_fixed.specs.declared.mesh.QuadSpec.{QuadSpec}
+use Rattle.fixed_q1.specs.Geometry.{IsWithinReach}
+use Rattle.fixed_q1.specs.CellForm.{CellForm, cell_form}
+use Rattle.fixed_q1.specs.declared.fault.LocalFault.{LocalFault}
+use Rattle.fixed_q1.proofs.Bounds.{form_small}
+use Rattle.assemble_core.specs.Numbering.{vertices}
+use Rattle.assemble_core.specs.SerialSum.{contributions, form_contributions, matrix_contributions}
+use Rattle.assemble_core.specs.System.{vertex_points, unit_diffusion}
+use Rattle.assemble_core.specs.Sums.{AreTerms}
+use Rattle.assemble_core.specs.NumberTable.{table_dofs}
+use Rattle.assemble_core.specs.CellSteps.{table_block}
+
+pub all_four : (P : Point → Type 0) (a b c d : Point) → P a → P b → P c → P d → All P (a ∷ b ∷ c ∷ d ∷ [])
+all_four P a b c d pa pb pc pd zero e h = pa
+all_four P a b c d pa pb pc pd (suc zero) e h = pb
+all_four P a b c d pa pb pc pd (suc (suc zero)) e h = pc
+all_four P a b c d pa pb pc pd (suc (suc (suc zero))) e h = pd
+all_four P a b c d pa pb pc pd (suc (suc (suc (suc k)))) e h = absurd (omega arith)
+
+-- the vertices of a cell are within reach
+pub vertices_reach : (points : List Point) (quad : QuadSpec) → All IsWithinReach points → All (λ v. v < length points) (vertices quad) → All IsWithinReach (vertex_points points quad)
+vertices_reach points quad reach inside =
+    let origin : Point = record { x = pos 0; y = pos 0 } in
+    all_four IsWithinReach _ _ _ _ (reach _ origin (inside 0 0 (omega arith))) (reach _ origin (inside 1 0 (omega arith)))
+    (reach _ origin (inside 2 0 (omega arith))) (reach _ origin (inside 3 0 (omega arith)))
+
+-- the entries of a cell may be added
+pub form_terms : (points : List Point) (diffusion source : ℤ) (matrix : List (List ℤ)) (load : List ℤ) →
+    cell_form points diffusion source ≡ Ok (record { matrix = matrix; load = load }) → AreTerms matrix
+form_terms points diffusion source matrix load h i j =
+    let small = form_small points diffusion source (record { matrix = matrix; load = load }) h i j in
+    omega (arith, small, powers)
+  where
+    powers : 2 ^ 72 ≤ 2 ^ 100
+    powers = omega arith
+
+-- what a formed cell contributes
+pub formed : (table : List (Option ℕ)) (points : List Point) (quad : QuadSpec) (matrix : List (List ℤ)) (load : List ℤ) →
+    cell_form (vertex_points points quad) unit_diffusion (pos 0) ≡ Ok (record { matrix = matrix; load = load }) →
+    matrix_contributions (table_dofs table quad) matrix ≡ contributions (table_block table points quad)
+formed table points quad matrix load h = sym (ap (form_contributions (table_dofs table quad)) h)
+
+pub is_formed : (r : Result CellForm LocalFault) (form : CellForm) → r ≡ Ok form → IsOk r
+is_formed (Ok f) form h = refl
+is_formed (Err e) form h = cc

@@ -1,0 +1,9 @@
+pub mod NumberSteps
+pub mod PatternLaws
+pub mod SumSteps
+pub mod SystemLaws
+pub mod CellLaws
+pub mod FailureLaws
+pub mod TableLaws
+pub mod PlainLaws
+pub mod AnswerLaws

@@ -1,0 +1,37 @@
+use Rattle.std.proofs.Common.{◌≡◌, ◌∙◌, sym, ap, refl, List, subst, pos, ℕ}
+use Rattle.std.specs.Prelude.{All, Ok, Err}
+use Rattle.fem_fixed.specs.declared.mesh.Point.{Point}
+use Rattle.fixed_q1.specs.Geometry.{IsWithinReach}
+use Rattle.fixed_q1.specs.CellForm.{cell_form}
+use Rattle.assemble_core.specs.SerialSum.{Contribution, matrix_contributions}
+use Rattle.assemble_core.specs.System.{vertex_points, unit_diffusion}
+use Rattle.assemble_core.specs.Sums.{AddsAll, PassesLimit}
+use Rattle.assemble_core.proofs.CellLaws.{vertices_reach, form_terms, formed, is_formed}
+use Rattle.assemble_core.proofs.assembly.add_cell.Goals as goal
+
+pub cell_matrix-requires-clause-points : goal.cell_matrix-requires-clause-points
+cell_matrix-requires-clause-points c =
+    let P : List Point → Type 0 = λ ps. All IsWithinReach ps in
+    subst P (sym c.cell_points-vertices.ensures) (vertices_reach c.args.points.now c.args.quad.now c.requires.reach c.requires.corners)
+
+pub add_matrix-requires-clause-terms : goal.add_matrix-requires-clause-terms
+add_matrix-requires-clause-terms c = form_terms c.cell_points-vertices.result _ _ c.cell_matrix.new.matrix c.cell_matrix.new.rhs c.in-Ok.ensures.ok
+
+pub returns-in-Ok-add_matrix-clause-ok : goal.returns-in-Ok-add_matrix-clause-ok
+returns-in-Ok-add_matrix-clause-ok c =
+    let form : cell_form (vertex_points c.args.points.now c.args.quad.now) unit_diffusion (pos 0) ≡ Ok (record { matrix = c.cell_matrix.new.matrix; load = c.cell_matrix.new.rhs }) =
+    ap (λ ps. cell_form ps unit_diffusion (pos 0)) (sym c.cell_points-vertices.ensures) ∙ c.in-Ok.ensures.ok in
+    let same = ap (λ (dofs : List ℕ). matrix_contributions dofs c.cell_matrix.new.matrix) c.of_cell.ensures ∙ formed c.args.numbering.now.of_node.items c.args.points.now c.args.quad.now _ _ form in
+    let P : List Contribution → Type 0 = λ more. AddsAll c.args.sums.now c.add_matrix.new.sums more in
+    subst P same c.in-Ok-add_matrix.ensures.ok
+
+pub returns-in-Err-Limit-clause-fails : goal.returns-in-Err-Limit-clause-fails
+returns-in-Err-Limit-clause-fails c =
+    let form : cell_form (vertex_points c.args.points.now c.args.quad.now) unit_diffusion (pos 0) ≡ Ok (record { matrix = c.cell_matrix.new.matrix; load = c.cell_matrix.new.rhs }) =
+    ap (λ ps. cell_form ps unit_diffusion (pos 0)) (sym c.cell_points-vertices.ensures) ∙ c.in-Ok.ensures.ok in
+    let same = ap (λ (dofs : List ℕ). matrix_contributions dofs c.cell_matrix.new.matrix) c.of_cell.ensures ∙ formed c.args.numbering.now.of_node.items c.args.points.now c.args.quad.now _ _ form in
+    let P : List Contribution → Type 0 = λ more. PassesLimit c.args.sums.now more in (
+      refl,
+      is_formed _ _ form,
+      subst P same (c.in-Err-Limit.ensures.limit (ap (λ e. Err e) c.in-Err-Limit.field-0-is)),
+    )

@@ -1,0 +1,12 @@
+pub mod Words
+pub mod Answer
+pub mod Run
+pub mod PlainMesh
+pub mod Numbering
+pub mod NumberTable
+pub mod Pattern
+pub mod SerialSum
+pub mod System
+pub mod Sums
+pub mod CellSteps
+pub mod MatrixText

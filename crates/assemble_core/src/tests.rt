@@ -1,0 +1,209 @@
+use super::*;
+use fem_text::{MemorySink, MemoryStore};
+use std::alloc::Global;
+use std::test::Fail;
+
+const SQUARE: &str = "4 1 0 0 0\n1 0 0 0\n2 1 0 0\n3 1 1 0\n4 0 1 0\n1 1 quad 1 2 3 4\n";
+
+const SQUARE_MATRIX: &str =
+    "%%MatrixMarket matrix coordinate integer general\n% unit 2^-32\n4 4 16\n\
+1 1 2863340768\n1 2 -715857120\n1 3 -715857120\n1 4 -1431626528\n\
+2 1 -715857120\n2 2 2863340768\n2 3 -1431626528\n2 4 -715857120\n\
+3 1 -715857120\n3 2 -1431626528\n3 3 2863340768\n3 4 -715857120\n\
+4 1 -1431626528\n4 2 -715857120\n4 3 -715857120\n4 4 2863340768\n";
+
+fn words_of(alloc: Global, words: &[&str]) -> Result<Vec<String>, Fail> {
+    let mut list = Vec::new(alloc);
+    for word in words {
+        list.push(String::from_str(alloc, word)?)?;
+    }
+    Ok(list)
+}
+
+fn store_with(alloc: Global, text: &str, fail_reads: Vec<u32>) -> Result<MemoryStore, Fail> {
+    let mut store = MemoryStore::new(alloc, fail_reads, Vec::new(alloc));
+    store.hold(alloc, "mesh", text.as_bytes())?;
+    Ok(store)
+}
+
+#[test]
+fn the_unit_square_has_its_matrix(rt: HostRuntime) -> Result<(), Fail> {
+    let alloc = rt.alloc();
+    let mut store = store_with(alloc, SQUARE, Vec::new(alloc))?;
+    let mut out = MemorySink::new(alloc, 4096, Vec::new(alloc))?;
+    let mut err = MemorySink::new(alloc, 4096, Vec::new(alloc))?;
+    let words = words_of(alloc, &["--mode", "serial", "--mesh", "mesh"])?;
+    let status = run_plain(&rt, alloc, words.as_slice(), &mut store, &mut out, &mut err);
+    assert_eq!(rt; status, 0);
+    assert_eq!(rt; out.taken(), SQUARE_MATRIX.as_bytes());
+    assert_eq!(rt; err.taken().len(), 0);
+    Ok(())
+}
+
+#[test]
+fn each_refusal_has_its_line_and_writes_nothing(rt: HostRuntime) -> Result<(), Fail> {
+    let alloc = rt.alloc();
+    let cut = "4 1 0 0 0\n1 0 0 0\n2 1 0 0\n3 1 1 0\n4 0 1 0\n";
+    let clockwise = "4 1 0 0 0\n1 0 0 0\n2 1 0 0\n3 1 1 0\n4 0 1 0\n1 1 quad 1 4 3 2\n";
+    let longer = "4 1 0 0 0\n1 0 0 0\n2 1 0 0\n3 1 1 0\n4 0 1 0\n1 1 quad 1 2 3 4\n\n";
+    let cases = [
+        ("", SQUARE, 2, "assemble: 2 Words\n"),
+        ("-mesh", SQUARE, 2, "assemble: 2 Words\n"),
+        ("other", SQUARE, 13, "assemble: 13 NotBuilt\n"),
+        ("mesh", "", 13, "assemble: 13 NotBuilt\n"),
+        ("mesh", cut, 13, "assemble: 13 NotBuilt\n"),
+        ("mesh", clockwise, 13, "assemble: 13 NotBuilt\n"),
+        ("mesh", longer, 13, "assemble: 13 NotBuilt\n"),
+    ];
+    for (name, text, status, line) in cases {
+        let mut store = store_with(alloc, text, Vec::new(alloc))?;
+        let mut out = MemorySink::new(alloc, 4096, Vec::new(alloc))?;
+        let mut err = MemorySink::new(alloc, 4096, Vec::new(alloc))?;
+        let words = words_of(alloc, &["--mesh", name])?;
+        let ended = run_plain(&rt, alloc, words.as_slice(), &mut store, &mut out, &mut err);
+        assert_eq!(rt; ended, status, "with the name {name}");
+        assert_eq!(rt; out.taken().len(), 0);
+        assert_eq!(rt; err.taken(), line.as_bytes());
+    }
+    Ok(())
+}
+
+#[test]
+fn a_read_that_fails_is_told(rt: HostRuntime) -> Result<(), Fail> {
+    let alloc = rt.alloc();
+    let mut store = store_with(alloc, SQUARE, vec![in alloc; 1]?)?;
+    let mut out = MemorySink::new(alloc, 4096, Vec::new(alloc))?;
+    let mut err = MemorySink::new(alloc, 4096, Vec::new(alloc))?;
+    let words = words_of(alloc, &["--mesh", "mesh"])?;
+    let status = run_plain(&rt, alloc, words.as_slice(), &mut store, &mut out, &mut err);
+    assert_eq!(rt; status, 10);
+    assert_eq!(rt; out.taken().len(), 0);
+    assert_eq!(rt; err.taken(), b"assemble: 10 ReadFault mesh\n".as_slice());
+    Ok(())
+}
+
+#[test]
+fn a_sink_without_room_has_a_prefix(rt: HostRuntime) -> Result<(), Fail> {
+    let alloc = rt.alloc();
+    let words = words_of(alloc, &["--mesh", "mesh"])?;
+    for room in 0..SQUARE_MATRIX.len() {
+        let mut store = store_with(alloc, SQUARE, Vec::new(alloc))?;
+        let mut out = MemorySink::new(alloc, room, Vec::new(alloc))?;
+        let mut err = MemorySink::new(alloc, 4096, Vec::new(alloc))?;
+        let status = run_plain(&rt, alloc, words.as_slice(), &mut store, &mut out, &mut err);
+        assert_eq!(rt; status, 11, "with room {room}");
+        assert_eq!(rt; out.taken().len(), room);
+        assert!(rt; SQUARE_MATRIX.as_bytes().starts_with(out.taken()));
+        assert_eq!(rt; err.taken(), b"assemble: 11 WriteFault matrix\n".as_slice());
+    }
+    Ok(())
+}
+
+#[test]
+fn a_put_that_fails_leaves_what_was_put_before(rt: HostRuntime) -> Result<(), Fail> {
+    let alloc = rt.alloc();
+    let words = words_of(alloc, &["--mesh", "mesh"])?;
+    let mut store = store_with(alloc, SQUARE, Vec::new(alloc))?;
+    let mut out = MemorySink::new(alloc, 4096, vec![in alloc; 1]?)?;
+    let mut err = MemorySink::new(alloc, 4096, vec![in alloc; 1]?)?;
+    let status = run_plain(&rt, alloc, words.as_slice(), &mut store, &mut out, &mut err);
+    assert_eq!(rt; status, 11);
+    assert_eq!(rt; out.taken().len(), 0);
+    assert_eq!(rt; err.taken().len(), 0);
+    Ok(())
+}
+
+// The matrix of the unit square, by lexicographic vertices.
+const UNIT: [[i128; 4]; 4] = [
+    [2_863_340_768, -715_857_120, -715_857_120, -1_431_626_528],
+    [-715_857_120, 2_863_340_768, -1_431_626_528, -715_857_120],
+    [-715_857_120, -1_431_626_528, 2_863_340_768, -715_857_120],
+    [-1_431_626_528, -715_857_120, -715_857_120, 2_863_340_768],
+];
+
+// The entry of two nodes, straight from its definition: over all cells, what goes to it.
+fn slow_entry(cells: &[[u32; 4]], row: u32, column: u32) -> Option<i128> {
+    let mut sum = if row == column { Some(0i128) } else { None };
+    for cell in cells {
+        for (i, u) in cell.iter().enumerate() {
+            for (j, v) in cell.iter().enumerate() {
+                if *u == row && *v == column {
+                    sum = Some(sum.unwrap_or(0).wrapping_add(UNIT[i][j]));
+                }
+            }
+        }
+    }
+    sum
+}
+
+// The nodes of the cells by first occurrence.
+fn slow_order(alloc: Global, cells: &[[u32; 4]]) -> Result<Vec<u32>, Fail> {
+    let mut nodes: Vec<u32> = Vec::new(alloc);
+    for cell in cells {
+        for node in cell {
+            if !nodes.contains(node) {
+                nodes.push(*node)?;
+            }
+        }
+    }
+    Ok(nodes)
+}
+
+fn slow_text(alloc: Global, cells: &[[u32; 4]]) -> Result<String, Fail> {
+    let nodes = slow_order(alloc, cells)?;
+    let mut lines = String::new(alloc);
+    let mut count = 0u32;
+    for (i, row) in nodes.iter().enumerate() {
+        for (j, column) in nodes.iter().enumerate() {
+            if let Some(value) = slow_entry(cells, *row, *column) {
+                count = count.wrapping_add(1);
+                let line = format!(in alloc;
+                    "{} {} {value}\n",
+                    i.wrapping_add(1),
+                    j.wrapping_add(1)
+                )?;
+                lines.push_str(line.as_str())?;
+            }
+        }
+    }
+    let size = nodes.len();
+    let mut text = format!(in alloc;
+        "%%MatrixMarket matrix coordinate integer general\n% unit 2^-32\n{size} {size} {count}\n"
+    )?;
+    text.push_str(lines.as_str())?;
+    Ok(text)
+}
+
+#[test]
+fn meshes_that_share_nodes_have_the_sum_of_the_definition(rt: HostRuntime) -> Result<(), Fail> {
+    let alloc = rt.alloc();
+    let edge =
+        "6 2 0 0 0\n1 0 0 0\n2 1 0 0\n3 2 0 0\n4 0 1 0\n5 1 1 0\n6 2 1 0\n1 1 quad 1 2 5 4\n2 1 quad 2 3 6 5\n";
+    let corner =
+        "7 2 0 0 0\n1 0 0 0\n2 1 0 0\n3 0 1 0\n4 1 1 0\n5 2 1 0\n6 1 2 0\n7 2 2 0\n1 1 quad 1 2 4 3\n2 1 quad 4 5 7 6\n";
+    let around =
+        "9 4 0 0 0\n1 0 0 0\n2 1 0 0\n3 2 0 0\n4 0 1 0\n5 1 1 0\n6 2 1 0\n7 0 2 0\n8 1 2 0\n9 2 2 0\n\
+4 1 quad 5 6 9 8\n3 1 quad 4 5 8 7\n1 1 quad 1 2 5 4\n2 1 quad 2 3 6 5\n";
+    let twice =
+        "4 2 0 0 0\n1 0 0 0\n2 1 0 0\n3 1 1 0\n4 0 1 0\n1 1 quad 1 2 3 4\n2 1 quad 1 2 3 4\n";
+    let cases: [(&str, &[[u32; 4]]); 4] = [
+        (edge, &[[1, 2, 4, 5], [2, 3, 5, 6]]),
+        (corner, &[[1, 2, 3, 4], [4, 5, 6, 7]]),
+        (
+            around,
+            &[[5, 6, 8, 9], [4, 5, 7, 8], [1, 2, 4, 5], [2, 3, 5, 6]],
+        ),
+        (twice, &[[1, 2, 4, 3], [1, 2, 4, 3]]),
+    ];
+    let words = words_of(alloc, &["--mesh", "mesh"])?;
+    for (text, cells) in cases {
+        let mut store = store_with(alloc, text, Vec::new(alloc))?;
+        let mut out = MemorySink::new(alloc, 65_536, Vec::new(alloc))?;
+        let mut err = MemorySink::new(alloc, 4096, Vec::new(alloc))?;
+        let status = run_plain(&rt, alloc, words.as_slice(), &mut store, &mut out, &mut err);
+        assert_eq!(rt; status, 0);
+        let expected = slow_text(alloc, cells)?;
+        assert_eq!(rt; out.taken(), expected.as_bytes());
+    }
+    Ok(())
+}

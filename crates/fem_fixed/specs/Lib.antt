@@ -1,0 +1,4 @@
+pub mod Rounding
+pub mod KeptSum
+pub mod Numbers
+pub mod Mesh
