@@ -4,8 +4,8 @@ use Rattle.std.specs.Prelude.{All, IsOk, Ok, Err}
 use Rattle.std.specs.declared.result.Result.{Result}
 use Rattle.std.specs.declared.option.Option.{Option}
 use Rattle.fem_fixed.specs.declared.mesh.Point.{Point}
-use Rattle.fem_fixed.specs.declared.mesh.QuadSpec.{QuadSpec}
-use Rattle.fixed_q1.specs.Geometry.{IsWithinReach}
+use Rattle.quad_mesh.specs.declared.cells.Quad.{Quad}
+use Rattle.fem_fixed.specs.Mesh.{IsWithinReach}
 use Rattle.fixed_q1.specs.CellForm.{CellForm, cell_form}
 use Rattle.fixed_q1.specs.declared.fault.LocalFault.{LocalFault}
 use Rattle.fixed_q1.proofs.Bounds.{form_small}
@@ -24,7 +24,7 @@ all_four P a b c d pa pb pc pd (suc (suc (suc zero))) e h = pd
 all_four P a b c d pa pb pc pd (suc (suc (suc (suc k)))) e h = absurd (omega arith)
 
 -- the vertices of a cell are within reach
-pub vertices_reach : (points : List Point) (quad : QuadSpec) → All IsWithinReach points → All (λ v. v < length points) (vertices quad) → All IsWithinReach (vertex_points points quad)
+pub vertices_reach : (points : List Point) (quad : Quad) → All IsWithinReach points → All (λ v. v < length points) (vertices quad) → All IsWithinReach (vertex_points points quad)
 vertices_reach points quad reach inside =
     let origin : Point = record { x = pos 0; y = pos 0 } in
     all_four IsWithinReach _ _ _ _ (reach _ origin (inside 0 0 (omega arith))) (reach _ origin (inside 1 0 (omega arith)))
@@ -41,7 +41,7 @@ form_terms points diffusion source matrix load h i j =
     powers = omega arith
 
 -- what a formed cell contributes
-pub formed : (table : List (Option ℕ)) (points : List Point) (quad : QuadSpec) (matrix : List (List ℤ)) (load : List ℤ) →
+pub formed : (table : List (Option ℕ)) (points : List Point) (quad : Quad) (matrix : List (List ℤ)) (load : List ℤ) →
     cell_form (vertex_points points quad) unit_diffusion (pos 0) ≡ Ok (record { matrix = matrix; load = load }) →
     matrix_contributions (table_dofs table quad) matrix ≡ contributions (table_block table points quad)
 formed table points quad matrix load h = sym (ap (form_contributions (table_dofs table quad)) h)

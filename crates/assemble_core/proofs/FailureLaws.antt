@@ -11,9 +11,9 @@ use Rattle.std.proofs.lemmas.Bool.{cases_lt}
 use Rattle.std.proofs.lemmas.Grind.{common_steps}
 use Rattle.fixed_q1.specs.CellForm.{CellForm}
 use Rattle.fixed_q1.specs.declared.fault.LocalFault.{LocalFault}
-use Rattle.assemble_core.specs.SerialSum.{Block, Contribution, contributions, sum_of, entry, FailsInSum, Fails, FailsFirst, HasSum}
-use Rattle.assemble_core.specs.Sums.{Sums, sum_at, Holds, AddsAll, PassesLimit}
-use Rattle.fem_fixed.specs.declared.mesh.QuadSpec.{QuadSpec}
+use Rattle.assemble_core.specs.SerialSum.{Block, Contribution, contributions, sum_of, entry, FailsAtRow, IsLeastRow, Fails, FailsFirst, HasSum}
+use Rattle.assemble_core.specs.Sums.{Sums, sum_at, Holds, AddsAll, PassesAt}
+use Rattle.quad_mesh.specs.declared.cells.Quad.{Quad}
 use Rattle.assemble_core.specs.declared.assembly.AssembleFault.{AssembleFault}
 use Rattle.assemble_core.specs.declared.assembly.AssembleFault.TheVariants.{Local, Sum, NoMemory}
 use Rattle.assemble_core.specs.System.{FailsWith}
@@ -63,8 +63,8 @@ none_before cells t sums size so_far s h (inl (dofs, fault, at)) =
     let within : s < length cells = slice_get_within cells s (record { dofs = dofs; form = Err fault }) at in
     let same : Some (slice_index_or cells s blank) ≡ Some (record { dofs = dofs; form = Err fault }) = sym (slice_get-get_or cells s blank within) ∙ at in
     formed_or_not (slice_index_or cells s blank).form fault (so_far.forms s blank h) (block_form (slice_index_or cells s blank) dofs fault same)
-none_before cells t sums size so_far s h (inr (within, i, j, some, none)) =
-    earlier cells (s + 1) t i j (omega arith) (some_is (entry 0 (take t cells) i j) (sum_at sums i j) (so_far.holds.entries i j)) none
+none_before cells t sums size so_far s h (inr (row, at)) =
+    earlier cells (s + 1) t row at.column (omega arith) (some_is (entry 0 (take t cells) row at.column) (sum_at sums row at.column) (so_far.holds.entries row at.column)) at.after
 
 -- one more cell
 pub one_more : (cells : List Block) (t : ℕ) (d : Block) → t < length cells →
@@ -97,18 +97,20 @@ local_fails cells t d fault sums size within so_far h =
       ((slice_index_or cells t d).dofs, at),
     )
 
--- the cell t fails in a sum, first of all
-pub sum_fails : (cells : List Block) (t : ℕ) (d : Block) (sums : Sums) (size : ℕ) → t < length cells → Reaches cells t sums size →
-    PassesLimit sums (contributions (slice_index_or cells t d)) → FailsFirst 0 cells t × FailsInSum 0 cells t
-sum_fails cells t d sums size within so_far passes =
-    let (i, j, none) = passes size (flat_map contributions (take t cells)) so_far.holds in
-    let fails : FailsInSum 0 cells t = (
-      within,
-      i,
-      j,
-      some_is (entry 0 (take t cells) i j) (sum_at sums i j) (so_far.holds.entries i j),
-      ap (λ xs. sum_of 0 xs i j) (one_more cells t d within) ∙ none,
-    ) in (record { fails = inr fails; first = none_before cells t sums size so_far }, fails)
+-- the cell t fails in a sum, first of all, and at this row
+pub sum_fails : (cells : List Block) (t : ℕ) (d : Block) (row : ℕ) (sums : Sums) (size : ℕ) → t < length cells → Reaches cells t sums size →
+    PassesAt sums (contributions (slice_index_or cells t d)) row → FailsFirst 0 cells t × IsLeastRow 0 cells t row
+sum_fails cells t d row sums size within so_far passes =
+    let ((j, none), least) = passes size (flat_map contributions (take t cells)) so_far.holds in
+    let fails : FailsAtRow 0 cells t row = record {
+      within = within;
+      column = j;
+      before = some_is (entry 0 (take t cells) row j) (sum_at sums row j) (so_far.holds.entries row j);
+      after = ap (λ xs. sum_of 0 xs row j) (one_more cells t d within) ∙ none;
+    } in (
+      record { fails = inr (row, fails); first = none_before cells t sums size so_far },
+      record { fails = fails; least = λ other at. least other at.column (sym (ap (λ xs. sum_of 0 xs other at.column) (one_more cells t d within)) ∙ at.after) },
+    )
 
 -- after all cells
 pub reaches_all : (cells : List Block) (sums : Sums) (size : ℕ) → Reaches cells (length cells) sums size → HasSum 0 cells
@@ -125,31 +127,31 @@ reaches_all cells sums size so_far = record {
 pub reaches_none : (cells : List Block) (sums : Sums) (size : ℕ) → Holds sums size [] → Reaches cells 0 sums size
 reaches_none cells sums size holds = record { forms = λ s d below. absurd (omega arith); holds = holds }
 
-item_map : (f : QuadSpec → Block) (quads : List QuadSpec) (t : ℕ) (d : QuadSpec) → slice_index_or (map f quads) t (f d) ≡ f (slice_index_or quads t d)
+item_map : (f : Quad → Block) (quads : List Quad) (t : ℕ) (d : Quad) → slice_index_or (map f quads) t (f d) ≡ f (slice_index_or quads t d)
 item_map f [] t d = refl
 item_map f (quad ∷ quads) zero d = refl
 item_map f (quad ∷ quads) (suc t) d = item_map f quads t d
 
-map_length : (f : QuadSpec → Block) (quads : List QuadSpec) → length (map f quads) ≡ length quads
+map_length : (f : Quad → Block) (quads : List Quad) → length (map f quads) ≡ length quads
 map_length f [] = refl
 map_length f (quad ∷ quads) = ap suc (map_length f quads)
 
 -- a cell that fails is the first one
-pub cell_fails : (f : QuadSpec → Block) (quads : List QuadSpec) (t : ℕ) (d : QuadSpec) (fault : AssembleFault) (sums : Sums) (size : ℕ) → t < length quads →
+pub cell_fails : (f : Quad → Block) (quads : List Quad) (t : ℕ) (d : Quad) (fault : AssembleFault) (sums : Sums) (size : ℕ) → t < length quads →
     Reaches (map f quads) t sums size → CellFails t sums (f (slice_index_or quads t d)) fault → FailsWith (map f quads) fault
 cell_fails f quads t d (Local u fault) sums size within so_far (same, h) =
     let below : t < length (map f quads) = rw map_length within in
     let P : ℕ → Type 0 = λ n. FailsFirst 0 (map f quads) n × ((dofs : List ℕ) × (slice_get (map f quads) n ≡ Some (record { dofs = dofs; form = Err fault }))) in
     subst P (sym same) (local_fails (map f quads) t (f d) fault sums size below so_far (ap (λ (b : Block). b.form) (item_map f quads t d) ∙ h))
-cell_fails f quads t d (Sum u) sums size within so_far (same, formed, passes) =
+cell_fails f quads t d (Sum u row) sums size within so_far (same, formed, passes) =
     let below : t < length (map f quads) = rw map_length within in
-    let P : ℕ → Type 0 = λ n. FailsFirst 0 (map f quads) n × FailsInSum 0 (map f quads) n in
-    let Q : Block → Type 0 = λ b. PassesLimit sums (contributions b) in
-    subst P (sym same) (sum_fails (map f quads) t (f d) sums size below so_far (subst Q (sym (item_map f quads t d)) passes))
+    let P : ℕ → Type 0 = λ n. FailsFirst 0 (map f quads) n × IsLeastRow 0 (map f quads) n row in
+    let Q : Block → Type 0 = λ b. PassesAt sums (contributions b) row in
+    subst P (sym same) (sum_fails (map f quads) t (f d) row sums size below so_far (subst Q (sym (item_map f quads t d)) passes))
 cell_fails f quads t d NoMemory sums size within so_far h = tt
 
 -- a cell that is added
-pub cell_reaches : (f : QuadSpec → Block) (quads : List QuadSpec) (t : ℕ) (d : QuadSpec) (before now : Sums) (size : ℕ) → t < length quads →
+pub cell_reaches : (f : Quad → Block) (quads : List Quad) (t : ℕ) (d : Quad) (before now : Sums) (size : ℕ) → t < length quads →
     Reaches (map f quads) t before size → IsOk (f (slice_index_or quads t d)).form → AddsAll before now (contributions (f (slice_index_or quads t d))) →
     Reaches (map f quads) (t + 1) now size
 cell_reaches f quads t d before now size within so_far formed adds =
@@ -158,7 +160,7 @@ cell_reaches f quads t d before now size within so_far formed adds =
     let Q : Block → Type 0 = λ b. AddsAll before now (contributions b) in
     reaches_more (map f quads) t (f d) before now size below so_far (subst P (sym (item_map f quads t d)) formed) (subst Q (sym (item_map f quads t d)) adds)
 
-pub all_cells : (f : QuadSpec → Block) (quads : List QuadSpec) (sums : Sums) (size : ℕ) → Reaches (map f quads) (length quads) sums size → HasSum 0 (map f quads)
+pub all_cells : (f : Quad → Block) (quads : List Quad) (sums : Sums) (size : ℕ) → Reaches (map f quads) (length quads) sums size → HasSum 0 (map f quads)
 all_cells f quads sums size so_far =
     let P : ℕ → Type 0 = λ n. Reaches (map f quads) n sums size in
     reaches_all (map f quads) sums size (subst P (sym (map_length f quads)) so_far)
@@ -166,7 +168,7 @@ all_cells f quads sums size so_far =
 whole : (xs : List Block) → take (length xs) xs ≡ xs
 whole xs = grind (arith, common_steps)
 
-pub all_held : (f : QuadSpec → Block) (quads : List QuadSpec) (sums : Sums) (size : ℕ) → Reaches (map f quads) (length quads) sums size → Holds sums size (flat_map contributions (map f quads))
+pub all_held : (f : Quad → Block) (quads : List Quad) (sums : Sums) (size : ℕ) → Reaches (map f quads) (length quads) sums size → Holds sums size (flat_map contributions (map f quads))
 all_held f quads sums size so_far =
     let P : List Block → Type 0 = λ xs. Holds sums size (flat_map contributions xs) in
     let e : take (length quads) (map f quads) ≡ map f quads = ap (λ n. take n (map f quads)) (sym (map_length f quads)) ∙ whole (map f quads) in
@@ -184,4 +186,59 @@ sum_or_fails cells t sum fails = either fails.fails
         let within : t < length cells = slice_get_within cells t (record { dofs = dofs; form = Err fault }) at in
         let same : Some (slice_index_or cells t blank) ≡ Some (record { dofs = dofs; form = Err fault }) = sym (slice_get-get_or cells t blank within) ∙ at in
         formed_or_not (slice_index_or cells t blank).form fault (sum.forms t blank within) (block_form (slice_index_or cells t blank) dofs fault same)
-    either (inr (within, i, j, some, none)) = earlier cells (t + 1) (length cells) i j (omega arith) (whole_entry i j) none
+    either (inr (row, at)) = earlier cells (t + 1) (length cells) row at.column (omega (arith, at.within)) (whole_entry row at.column) at.after
+
+-- one cell at most is the first that fails
+pub first_once : (cells : List Block) (t u : ℕ) → FailsFirst 0 cells t → FailsFirst 0 cells u → t ≡ u
+first_once cells t u first second = elim (cases_lt t u) [
+  | inl h ↦ absurd (second.first t h first.fails)
+  | inr h ↦ elim (cases_lt u t) [ inl g ↦ absurd (first.first u g second.fails) | inr g ↦ omega arith ]
+]
+
+-- a cell with a fault in its local form doesn't fail in a sum
+local_or_sum : (cells : List Block) (t row : ℕ) (dofs : List ℕ) (fault : LocalFault) → slice_get cells t ≡ Some (record { dofs = dofs; form = Err fault }) → FailsAtRow 0 cells t row → ⊥
+local_or_sum cells t row dofs fault at fails =
+    let same : Some (slice_index_or cells t blank) ≡ Some (record { dofs = dofs; form = Err fault }) = sym (slice_get-get_or cells t blank fails.within) ∙ at in
+    let none : contributions (slice_index_or cells t blank) ≡ [] = ap given same in
+    let all : flat_map contributions (take (t + 1) cells) ≡ flat_map contributions (take t cells) =
+    one_more cells t blank fails.within ∙ ap (λ xs. flat_map contributions (take t cells) ++ xs) none ∙ append-nil (flat_map contributions (take t cells)) in
+    not_both (entry 0 (take t cells) row fails.column) fails.before (sym (ap (λ xs. sum_of 0 xs row fails.column) all) ∙ fails.after)
+  where
+    given : Option Block → List Contribution
+    given None = []
+    given (Some block) = contributions block
+
+-- the sum fails in one way at most
+pub one_failure : (cells : List Block) (f g : AssembleFault) → (f ≡ NoMemory → ⊥) → (g ≡ NoMemory → ⊥) → FailsWith cells f → FailsWith cells g → f ≡ g
+one_failure cells (Local t a) (Local u b) p q (ft, (d, at)) (fu, (e, au)) =
+    let same : t ≡ u = first_once cells t u ft fu in
+    let P : ℕ → Type 0 = λ n. slice_get cells n ≡ Some (record { dofs = d; form = Err a }) in
+    let faults : a ≡ b = ap fault_in (sym (subst P same at) ∙ au) in
+    λ i. Local (same i) (faults i)
+  where
+    fault_in : Option Block → LocalFault
+    fault_in None = a
+    fault_in (Some block) = of_form block.form
+      where
+        of_form : Result CellForm LocalFault → LocalFault
+        of_form (Ok form) = a
+        of_form (Err fault) = fault
+one_failure cells (Local t a) (Sum u row) p q (ft, (d, at)) (fu, least) =
+    let same : t ≡ u = first_once cells t u ft fu in
+    let P : ℕ → Type 0 = λ n. slice_get cells n ≡ Some (record { dofs = d; form = Err a }) in
+    absurd (local_or_sum cells u row d a (subst P same at) least.fails)
+one_failure cells (Sum t row) (Local u b) p q (ft, least) (fu, (e, au)) =
+    let same : u ≡ t = first_once cells u t fu ft in
+    let P : ℕ → Type 0 = λ n. slice_get cells n ≡ Some (record { dofs = e; form = Err b }) in
+    absurd (local_or_sum cells t row e b (subst P same au) least.fails)
+one_failure cells (Sum t row) (Sum u other) p q (ft, least) (fu, lowest) =
+    let same : t ≡ u = first_once cells t u ft fu in
+    let P : ℕ → Type 0 = λ n. IsLeastRow 0 cells n row in
+    let moved = subst P same least in
+    let down = moved.least other lowest.fails in
+    let up = lowest.least row moved.fails in
+    let rows : row ≡ other = omega (arith, down, up) in
+    λ i. Sum (same i) (rows i)
+one_failure cells (Local t a) NoMemory p q h k = absurd (q refl)
+one_failure cells (Sum t row) NoMemory p q h k = absurd (q refl)
+one_failure cells NoMemory g p q h k = absurd (p refl)

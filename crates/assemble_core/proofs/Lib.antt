@@ -5,5 +5,5 @@ pub mod SystemLaws
 pub mod CellLaws
 pub mod FailureLaws
 pub mod TableLaws
-pub mod PlainLaws
+pub mod PrefixLaws
 pub mod AnswerLaws

@@ -2,7 +2,7 @@
 use Rattle.std.proofs.Common.{◌≡◌, ◌≢◌, ◌∙◌, sym, ap, refl, ℕ, ◌+◌, ◌<◌, ◌≤◌, List, [], ◌∷◌, ◌++◌, length, take, Bool, true, false, arith, set, get_or, get_or-set_same, get_or-set_other, append_assoc, append-nil, length-append, subst, replicate, ◌*◌, All, inl, inr, ◌⊎◌}
 use Rattle.std.specs.Prelude.{Some, None, is_some, ◌||◌, ◌==◌, if◌then◌else◌}
 use Rattle.std.specs.declared.option.Option.{Option}
-use Rattle.fem_fixed.specs.declared.mesh.QuadSpec.{QuadSpec}
+use Rattle.quad_mesh.specs.declared.cells.Quad.{Quad}
 use Rattle.std.specs.List.{list_any, slice_get, slice_index_or, slice_set, before_first}
 use Rattle.std.proofs.lemmas.List.Folds.{list_any-append}
 use Rattle.std.proofs.lemmas.Grind.{common_steps}
@@ -218,21 +218,21 @@ different_small (x ∷ xs) = elim (cases_Bool (contains xs x)) [
   | inr e ↦ rw e (omega (arith, different_small xs))
 ]
 
-corners_length : (quads : List QuadSpec) → length (corner_list quads) ≡ 4 * length quads
+corners_length : (quads : List Quad) → length (corner_list quads) ≡ 4 * length quads
 corners_length [] = refl
 corners_length (quad ∷ quads) = simp length-append (omega (arith, corners_length quads))
 
 -- there are at most four dofs for each cell
-pub size_small : (table : List (Option ℕ)) (size nodes : ℕ) (quads : List QuadSpec) → IsNumbered table size nodes (corner_list quads) → size ≤ 4 * length quads
+pub size_small : (table : List (Option ℕ)) (size nodes : ℕ) (quads : List Quad) → IsNumbered table size nodes (corner_list quads) → size ≤ 4 * length quads
 size_small table size nodes quads h = omega (arith, h.count, different_small (corner_list quads), corners_length quads)
 
 -- the corners of a cell, where the table is as long as there are nodes
-pub in_table : (nodes : ℕ) (quads : List QuadSpec) (k : ℕ) (d : QuadSpec) (table : List (Option ℕ)) → HasCorners nodes quads → k < length quads →
+pub in_table : (nodes : ℕ) (quads : List Quad) (k : ℕ) (d : Quad) (table : List (Option ℕ)) → HasCorners nodes quads → k < length quads →
     length table ≡ nodes → All (λ corner. corner < length table) (vertices (slice_index_or quads k d))
 in_table nodes quads k d table h within whole = rw whole (h k d within)
 
 -- one more cell
-pub next_cell : (quads : List QuadSpec) (k : ℕ) (d : QuadSpec) → k < length quads →
+pub next_cell : (quads : List Quad) (k : ℕ) (d : Quad) → k < length quads →
     corner_list (take (k + 1) quads) ≡ corner_list (take k quads) ++ vertices (slice_index_or quads k d)
 next_cell quads k d within =
     ap corner_list (take_more quads k d within) ∙ flat_map-append vertices (take k quads) (slice_index_or quads k d ∷ []) ∙ ap (λ xs. corner_list (take k quads) ++ xs) (flat_map-cons vertices (slice_index_or quads k d) [] ∙ simp append-nil)

@@ -11,7 +11,7 @@ use Rattle.std.proofs.lemmas.List.Folds.{list_any-append}
 use Rattle.std.proofs.lemmas.List.FromFn.{fill_by_all}
 use Rattle.std.proofs.lemmas.List.Elements.{recursion_from_All}
 use Rattle.fem_fixed.specs.declared.mesh.Point.{Point}
-use Rattle.fem_fixed.specs.declared.mesh.QuadSpec.{QuadSpec}
+use Rattle.quad_mesh.specs.declared.cells.Quad.{Quad}
 use Rattle.fixed_q1.specs.CellForm.{CellForm}
 use Rattle.fixed_q1.specs.declared.fault.LocalFault.{LocalFault}
 use Rattle.assemble_core.specs.Numbering.{vertices, corner_list, contains, dof_of, dof_count}
@@ -111,7 +111,7 @@ right_part xs ys v h = list_any-append (λ m. m == v) xs ys ∙ ap (λ b. contai
     or_true false = refl
 
 -- a dof of a cell is below the size
-pub cell_below : (corners : List ℕ) (size : ℕ) (quads : List QuadSpec) → ((v : ℕ) → contains (corner_list quads) v ≡ true → dof_of corners v < size) → (i j : ℕ) →
+pub cell_below : (corners : List ℕ) (size : ℕ) (quads : List Quad) → ((v : ℕ) → contains (corner_list quads) v ≡ true → dof_of corners v < size) → (i j : ℕ) →
     list_any (λ dofs. contains dofs i && contains dofs j) (map (λ quad. map (dof_of corners) (vertices quad)) quads) ≡ true → (i < size) × (j < size)
 cell_below corners size [] below i j h = cc
 cell_below corners size (quad ∷ quads) below i j h = elim (cases_Bool (contains (map (dof_of corners) (vertices quad)) i && contains (map (dof_of corners) (vertices quad)) j)) [
@@ -134,7 +134,7 @@ cell_below corners size (quad ∷ quads) below i j h = elim (cases_Bool (contain
     and_right true b e = e
     and_right false b e = cc
 
-dofs_of_blocks : (points : List Point) (corners : List ℕ) (quads : List QuadSpec) →
+dofs_of_blocks : (points : List Point) (corners : List ℕ) (quads : List Quad) →
     map (λ block. block.dofs) (map (cell_block points corners) quads) ≡ map (λ quad. map (dof_of corners) (vertices quad)) quads
 dofs_of_blocks points corners [] = refl
 dofs_of_blocks points corners (quad ∷ quads) = ap (λ xs. map (dof_of corners) (vertices quad) ∷ xs) (dofs_of_blocks points corners quads)
@@ -162,7 +162,7 @@ value_where None b v e h = rw (← e) refl
 value_where (Some a) b v e h = rw (← e) (ap Some h)
 
 -- the map of the sums of all cells has the entries of the matrix, in order
-pub entries_listed : (points : List Point) (quads : List QuadSpec) (sums : Sums) (size : ℕ) → size ≡ dof_count quads →
+pub entries_listed : (points : List Point) (quads : List Quad) (sums : Sums) (size : ℕ) → size ≡ dof_count quads →
     ((v : ℕ) → contains (corner_list quads) v ≡ true → dof_of (corner_list quads) v < size) → All (λ cell. IsOk cell.form) (blocks points quads) →
     Holds sums size (flat_map contributions (blocks points quads)) → IsOrdered pair_cmp sums → sums.entries ≡ matrix_entries points quads
 unfolding matrix_entries

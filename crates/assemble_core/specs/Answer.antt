@@ -1,66 +1,84 @@
--- What the words and the held texts define: the text for the output, or a refusal with its diagnostic.
-use Rattle.std.specs.Prelude.{◌≡◌, ℕ, ◌<◌, ◌≤◌, ◌⊎◌, List, length, codes, if◌then◌else◌, ◌==◌, Some, None}
+-- What the words and the held texts define: the text for the output, or a refusal.
+use Rattle.std.specs.Prelude.{◌≡◌, ℕ, ◌<◌, ◌≤◌, List, length, Some, None, Ok, Err}
 use Rattle.std.specs.declared.option.Option.{Option}
+use Rattle.std.specs.declared.result.Result.{Result}
 use Rattle.fem_fixed.specs.Mesh.{Mesh}
 use Rattle.fem_text.specs.Outside.{Held}
+use Rattle.ucd_read.specs.Ucd.{Ucd, UcdFaultAt}
+use Rattle.quad_mesh.specs.Mesh.{CoarseMesh, mesh_of}
+use Rattle.quad_mesh.specs.declared.fault.MeshFault.{MeshFault}
 use Rattle.assemble_core.specs.Words.{mesh_name}
-use Rattle.assemble_core.specs.PlainMesh.{IsPlainMesh, NotPlain}
 use Rattle.assemble_core.specs.Numbering.{dof_count}
-use Rattle.assemble_core.specs.SerialSum.{HasSum, FailsFirst}
-use Rattle.assemble_core.specs.System.{blocks, matrix_entries}
+use Rattle.assemble_core.specs.SerialSum.{Block, HasSum}
+use Rattle.assemble_core.specs.System.{blocks, matrix_entries, FailsWith}
 use Rattle.assemble_core.specs.MatrixText.{matrix_text}
+use Rattle.assemble_core.specs.declared.assembly.AssembleFault.TheVariants as sums
+use Rattle.assemble_core.specs.declared.refusal.Refusal.{Refusal}
+use Rattle.assemble_core.specs.declared.refusal.Refusal.TheVariants as refusals
+use Rattle.assemble_core.specs.Refusals.{status_of}
 
 pub data Answer : Type 0 where
-  -- a status other than 0, and the line for the diagnostics
-  refuses : ℕ → List ℕ → Answer
+  refuses : Refusal → Answer
   -- the text for the output
   writes : List ℕ → Answer
 
 -- the status of an answer
-abbrev pub status_of : Answer → ℕ
-status_of (refuses status line) = status
-status_of (writes text) = 0
+abbrev pub answer_status : Answer → ℕ
+answer_status (refuses refusal) = status_of refusal
+answer_status (writes text) = 0
 
 -- the greatest length of a text
 unfoldable pub text_limit : ℕ
 text_limit = 268435456
 
--- the line that goes to the diagnostics with a status
-unfoldable pub diagnostic : ℕ → List ℕ
-diagnostic status =
-    if status == 2 then codes "assemble: 2 Words\n"
-    else if status == 10 then codes "assemble: 10 ReadFault mesh\n"
-    else if status == 11 then codes "assemble: 11 WriteFault matrix\n"
-    else if status == 13 then codes "assemble: 13 NotBuilt\n"
-    else codes "assemble: 12 NoMemory\n"
+-- the coarse mesh of what a text says, or its first fault
+abbrev pub coarse_of : Mesh → Result CoarseMesh MeshFault
+coarse_of parts = mesh_of parts.points parts.quads parts.lines
 
--- the sum over the cells of a mesh fails
-abbrev pub SumFails : Mesh → Type 0
-SumFails mesh = (t : ℕ) × FailsFirst 0 (blocks mesh.points mesh.quads) t
+-- this is the coarse mesh of a mesh text
+pub record IsMeshOf (text : List ℕ) (mesh : CoarseMesh) : Type 0 where
+  pub parts : Mesh
+  pub read : Ucd text parts
+  pub coarse : coarse_of parts ≡ Ok mesh
+
+-- the cells of a mesh in file order
+abbrev pub mesh_blocks : CoarseMesh → List Block
+mesh_blocks mesh = blocks mesh.points mesh.cells
 
 -- this is the matrix text of a mesh text
 pub record IsMatrixOf (text made : List ℕ) : Type 0 where
-  pub mesh : Mesh
-  pub read : IsPlainMesh text mesh
-  pub sum : HasSum 0 (blocks mesh.points mesh.quads)
-  pub made_is : made ≡ matrix_text (dof_count mesh.quads) (matrix_entries mesh.points mesh.quads)
+  pub mesh : CoarseMesh
+  pub mesh_is : IsMeshOf text mesh
+  pub sum : HasSum 0 (mesh_blocks mesh)
+  pub made_is : made ≡ matrix_text (dof_count mesh.cells) (matrix_entries mesh.points mesh.cells)
 
--- a mesh text, held or not, has no matrix: it isn't held, is too long, isn't in plain form, or has no sum
-abbrev pub NotBuilt : Option (List ℕ) → Type 0
-NotBuilt None = Unit {0}
-NotBuilt (Some text) = (text_limit < length text) ⊎ NotPlain text ⊎ ((mesh : Mesh) × IsPlainMesh text mesh × SumFails mesh)
+-- a text that isn't too long has no matrix: its first fault, that of its coarse mesh, or the first cell that fails
+abbrev pub HasNoMatrix : List ℕ → Refusal → Type 0
+HasNoMatrix text refusals.Words = ⊥
+HasNoMatrix text refusals.Absent = ⊥
+HasNoMatrix text refusals.MeshSize = ⊥
+HasNoMatrix text (refusals.MeshText fault) = UcdFaultAt text fault.kind fault.line
+HasNoMatrix text (refusals.Mesh fault) = (parts : Mesh) × Ucd text parts × (coarse_of parts ≡ Err fault)
+HasNoMatrix text (refusals.Local cell fault) = (mesh : CoarseMesh) × IsMeshOf text mesh × FailsWith (mesh_blocks mesh) (sums.Local cell fault)
+HasNoMatrix text (refusals.Sum cell row) = (mesh : CoarseMesh) × IsMeshOf text mesh × FailsWith (mesh_blocks mesh) (sums.Sum cell row)
 
--- the held text has this matrix text
-abbrev pub IsBuilt : Option (List ℕ) → List ℕ → Type 0
-IsBuilt None made = ⊥
-IsBuilt (Some text) made = (length text ≤ text_limit) × IsMatrixOf text made
+-- a text of this length is too long, or else it decides
+abbrev pub TextRefuses : List ℕ → Refusal → Type 0
+TextRefuses text refusals.MeshSize = text_limit < length text
+TextRefuses text refusal = (length text ≤ text_limit) × HasNoMatrix text refusal
+
+-- what a text has for an answer, held or not
+abbrev pub TextAnswers : Option (List ℕ) → Answer → Type 0
+TextAnswers None (refuses refusal) = refusal ≡ refusals.Absent
+TextAnswers None (writes made) = ⊥
+TextAnswers (Some text) (refuses refusal) = TextRefuses text refusal
+TextAnswers (Some text) (writes made) = (length text ≤ text_limit) × IsMatrixOf text made
 
 -- the words refuse, or else the text under the name that they give decides
 abbrev pub AnswersFor : Option (List ℕ) → Held → Answer → Type 0
-AnswersFor None held (refuses status line) = (status ≡ 2) × (line ≡ diagnostic 2)
+AnswersFor None held (refuses refusal) = refusal ≡ refusals.Words
 AnswersFor None held (writes made) = ⊥
-AnswersFor (Some name) held (refuses status line) = (status ≡ 13) × (line ≡ diagnostic 13) × NotBuilt (held name)
-AnswersFor (Some name) held (writes made) = IsBuilt (held name) made
+AnswersFor (Some name) held answer = TextAnswers (held name) answer
 
 -- the words and the held texts have this answer
 abbrev pub Answers : List (List ℕ) → Held → Answer → Type 0

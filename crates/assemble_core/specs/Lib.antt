@@ -1,7 +1,7 @@
 pub mod Words
+pub mod Refusals
 pub mod Answer
 pub mod Run
-pub mod PlainMesh
 pub mod Numbering
 pub mod NumberTable
 pub mod Pattern

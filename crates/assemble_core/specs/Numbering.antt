@@ -1,14 +1,14 @@
 -- Degrees of freedom, numbered by the first occurrence of their corners.
 use Rattle.std.specs.Prelude.{ℕ, ◌+◌, List, [], ◌∷◌, map, Bool, ◌==◌, if◌then◌else◌, slice_index}
 use Rattle.std.specs.List.{list_any, flat_map, before_first}
-use Rattle.fem_fixed.specs.declared.mesh.QuadSpec.{QuadSpec}
+use Rattle.quad_mesh.specs.declared.cells.Quad.{Quad}
 
--- the vertices of a quadrilateral in lexicographic place; its corners go round the cell
-abbrev pub vertices : QuadSpec → List ℕ
-vertices quad = map (slice_index quad.corners) (0 ∷ 1 ∷ 3 ∷ 2 ∷ [])
+-- the four vertices of a cell, in lexicographic place
+abbrev pub vertices : Quad → List ℕ
+vertices quad = map (slice_index quad.vertices) (0 ∷ 1 ∷ 2 ∷ 3 ∷ [])
 
 -- the vertices of all cells, cell after cell
-abbrev pub corner_list : List QuadSpec → List ℕ
+abbrev pub corner_list : List Quad → List ℕ
 corner_list quads = flat_map vertices quads
 
 abbrev pub contains : List ℕ → ℕ → Bool
@@ -24,9 +24,9 @@ unfoldable pub dof_of : List ℕ → ℕ → ℕ
 dof_of corners corner = different (before_first (λ other. other == corner) corners)
 
 -- the dofs of a cell, vertex after vertex
-abbrev pub cell_dofs : List QuadSpec → QuadSpec → List ℕ
+abbrev pub cell_dofs : List Quad → Quad → List ℕ
 cell_dofs quads quad = map (dof_of (corner_list quads)) (vertices quad)
 
 -- the number of all dofs
-abbrev pub dof_count : List QuadSpec → ℕ
+abbrev pub dof_count : List Quad → ℕ
 dof_count quads = different (corner_list quads)

@@ -1,6 +1,6 @@
 -- The serial sum: each entry by itself, as a fold over the contributions that go to it. The cells come in
 -- the order of the sum.
-use Rattle.std.specs.Prelude.{◌≡◌, ℕ, ◌+◌, ◌<◌, ◌⊎◌, List, [], map, fold, filter, length, take, Bool, ◌==◌, ◌&&◌, slice_index, slice_index_or, slice_get, ℤ, pos, Some, None, IsSome, IsOk, All, Ok, Err}
+use Rattle.std.specs.Prelude.{◌≡◌, ℕ, ◌+◌, ◌<◌, ◌≤◌, ◌⊎◌, List, [], map, fold, filter, length, take, Bool, ◌==◌, ◌&&◌, slice_index, slice_index_or, slice_get, ℤ, pos, Some, None, IsSome, IsOk, All, Ok, Err}
 use Rattle.std.specs.declared.option.Option.{Option}
 use Rattle.std.specs.declared.result.Result.{Result}
 use Rattle.std.specs.List.{flat_map, range_with_len}
@@ -60,13 +60,21 @@ entry digits cells i j = sum_of digits (flat_map contributions cells) i j
 abbrev pub FailsLocally : List Block → ℕ → Type 0
 FailsLocally cells t = (dofs : List ℕ) × (fault : LocalFault) × (slice_get cells t ≡ Some (record { dofs = dofs; form = Err fault }))
 
--- it fails in a sum: some entry is a number before it and nothing after it
-abbrev pub FailsInSum : ℕ → List Block → ℕ → Type 0
-FailsInSum digits cells t =
-    (t < length cells) × (i : ℕ) × (j : ℕ) × IsSome (entry digits (take t cells) i j) × (entry digits (take (t + 1) cells) i j ≡ None)
+-- it fails in a sum at a row: some entry of the row is a number before it and nothing after it
+pub record FailsAtRow (digits : ℕ) (cells : List Block) (t row : ℕ) : Type 0 where
+  pub within : t < length cells
+  pub column : ℕ
+  pub before : IsSome (entry digits (take t cells) row column)
+  pub after : entry digits (take (t + 1) cells) row column ≡ None
 
+-- it fails in its local form, or in a sum at some row
 abbrev pub Fails : ℕ → List Block → ℕ → Type 0
-Fails digits cells t = FailsLocally cells t ⊎ FailsInSum digits cells t
+Fails digits cells t = FailsLocally cells t ⊎ ((row : ℕ) × FailsAtRow digits cells t row)
+
+-- the least row at which it fails in a sum
+pub record IsLeastRow (digits : ℕ) (cells : List Block) (t row : ℕ) : Type 0 where
+  pub fails : FailsAtRow digits cells t row
+  pub least : (other : ℕ) → FailsAtRow digits cells t other → row ≤ other
 
 -- the sum fails, at this cell first
 pub record FailsFirst (digits : ℕ) (cells : List Block) (t : ℕ) : Type 0 where

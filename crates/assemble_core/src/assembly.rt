@@ -1,5 +1,5 @@
 ghost use Rattle.std.specs.Prelude.{◌≡◌, ◌<◌, ◌≤◌, ◌^◌, ℕ, [], All, IfErr, IfOk, IsOk, OnOk, length, map};
-ghost use Rattle.fixed_q1.specs.Geometry.{IsWithinReach};
+ghost use Rattle.fem_fixed.specs.Mesh.{IsWithinReach};
 ghost use Rattle.assemble_core.specs.Numbering.{vertices, dof_count};
 ghost use Rattle.assemble_core.specs.NumberTable.{HasCorners, HasDofs};
 ghost use Rattle.assemble_core.specs.SerialSum.{HasSum, contributions};
@@ -8,9 +8,10 @@ ghost use Rattle.assemble_core.specs.Sums.{AreSmall, AddsAll, Holds};
 ghost use Rattle.assemble_core.specs.CellSteps.{table_block, CellFails, Reaches};
 
 use crate::numbering::{Numbering, number};
-use crate::sums::{SumFault, Sums, add_matrix, diagonal};
-use fem_fixed::{NoMemory, Point, QuadSpec};
+use crate::sums::{Sums, add_matrix, diagonal};
+use fem_fixed::{NoMemory, Point};
 use fixed_q1::{LocalFault, Q1Scratch, cell_matrix};
+use quad_mesh::Quad;
 use std::alloc::Global;
 
 /// One in ticks of 2^-16: the diffusion of every cell.
@@ -28,8 +29,8 @@ pub struct Matrix {
 pub enum AssembleFault {
     /// The local form of this cell has a fault.
     Local(u32, LocalFault),
-    /// An addition of a contribution of this cell passes 2^80 in size.
-    Sum(u32),
+    /// An addition of a contribution of this cell passes 2^80 in size, at this row first.
+    Sum(u32, u32),
     NoMemory,
 }
 
@@ -47,11 +48,7 @@ impl From<NoMemory> for AssembleFault {
 ///
 /// The points are in ticks of 2^-16, the entries of the matrix in units of 2^-32. It takes time near linear
 /// in the cells.
-pub fn assemble(
-    alloc: Global,
-    points: &[Point],
-    quads: &[QuadSpec],
-) -> Result<Matrix, AssembleFault>
+pub fn assemble(alloc: Global, points: &[Point], quads: &[Quad]) -> Result<Matrix, AssembleFault>
     requires reach { All IsWithinReach points.now }
     requires corners { HasCorners (length points.now) quads.now }
     requires count { length quads.now ≤ 2 ^ 20 }
@@ -74,7 +71,7 @@ fn add_cells(
     sums: &mut Sums,
     numbering: &Numbering,
     points: &[Point],
-    quads: &[QuadSpec],
+    quads: &[Quad],
 ) -> Result<(), AssembleFault>
     requires small { AreSmall sums.old }
     requires reach { All IsWithinReach points.now }
@@ -101,7 +98,7 @@ fn add_cell(
     sums: &mut Sums,
     numbering: &Numbering,
     points: &[Point],
-    quad: &QuadSpec,
+    quad: &Quad,
     cell: u32,
     scratch: &mut Q1Scratch,
 ) -> Result<(), AssembleFault>
@@ -129,21 +126,21 @@ fn add_cell(
         Err(fault) => return Err(AssembleFault::Local(cell, fault)),
     }
     match add_matrix(sums, &numbering.of_cell(quad), &matrix) {
-        Ok(()) => Ok(()),
-        Err(SumFault::Limit) => Err(AssembleFault::Sum(cell)),
-        Err(SumFault::NoMemory) => Err(AssembleFault::NoMemory),
+        Ok(None) => Ok(()),
+        Ok(Some(row)) => Err(AssembleFault::Sum(cell, row)),
+        Err(NoMemory) => Err(AssembleFault::NoMemory),
     }
 }
 
 /// The vertices of a cell as points, in lexicographic place.
-fn cell_points(points: &[Point], quad: &QuadSpec) -> [Point; 4]
+fn cell_points(points: &[Point], quad: &Quad) -> [Point; 4]
     requires { All (λ corner. corner < length points.now) (vertices quad.now) }
     ensures { result ≡ vertex_points points.now quad.now }
 {
     [
-        points[quad.corners[0] as usize],
-        points[quad.corners[1] as usize],
-        points[quad.corners[3] as usize],
-        points[quad.corners[2] as usize],
+        points[quad.vertices[0] as usize],
+        points[quad.vertices[1] as usize],
+        points[quad.vertices[2] as usize],
+        points[quad.vertices[3] as usize],
     ]
 }

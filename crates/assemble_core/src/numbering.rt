@@ -2,7 +2,8 @@ ghost use Rattle.std.specs.Prelude.{◌≡◌, ◌<◌, ◌≤◌, ◌+◌, ◌*
 ghost use Rattle.assemble_core.specs.Numbering.{vertices, corner_list, dof_count, cell_dofs};
 ghost use Rattle.assemble_core.specs.NumberTable.{HasCorners, IsNumbered, IsIn, HasDofs, table_dof, table_dofs};
 
-use fem_fixed::{NoMemory, QuadSpec};
+use fem_fixed::NoMemory;
+use quad_mesh::Quad;
 use std::alloc::Global;
 
 /// The degree of freedom of each node that is a corner, by position in the list of points, and how many
@@ -15,7 +16,7 @@ pub struct Numbering {
 
 /// Numbers the corners of the cells by their first occurrence: cell after cell, and in a cell by the
 /// lexicographic place of its vertices.
-pub fn number(alloc: Global, nodes: usize, quads: &[QuadSpec]) -> Result<Numbering, NoMemory>
+pub fn number(alloc: Global, nodes: usize, quads: &[Quad]) -> Result<Numbering, NoMemory>
     requires corners { HasCorners nodes quads.now }
     requires count { length quads.now ≤ 2 ^ 20 }
     ensures { IfOk result (λ numbering. IsNumbered numbering.of_node.items numbering.size nodes (corner_list quads.now)) }
@@ -45,15 +46,15 @@ impl Numbering {
     }
 
     /// The dofs of a cell, vertex after vertex.
-    pub fn of_cell(&self, quad: &QuadSpec) -> [u32; 4]
+    pub fn of_cell(&self, quad: &Quad) -> [u32; 4]
         requires { HasDofs self.now.of_node.items quad.now }
         ensures { result ≡ table_dofs self.now.of_node.items quad.now }
     {
         [
-            self.of_corner(quad.corners[0]),
-            self.of_corner(quad.corners[1]),
-            self.of_corner(quad.corners[3]),
-            self.of_corner(quad.corners[2]),
+            self.of_corner(quad.vertices[0]),
+            self.of_corner(quad.vertices[1]),
+            self.of_corner(quad.vertices[2]),
+            self.of_corner(quad.vertices[3]),
         ]
     }
 
@@ -64,16 +65,16 @@ impl Numbering {
         self.of_node[corner as usize].unwrap()
     }
 
-    fn add_cell(&mut self, quad: &QuadSpec)
+    fn add_cell(&mut self, quad: &Quad)
         requires corners { All (λ corner. corner < length self.old.of_node.items) (vertices quad.now) }
         requires room { self.old.size + 4 < 2 ^ 32 }
         ensures { (nodes : ℕ) (seen : List ℕ) → IsNumbered self.old.of_node.items self.old.size nodes seen →
             IsNumbered self.new.of_node.items self.new.size nodes (seen ++ vertices quad.now) }
     {
-        self.add_corner(quad.corners[0]);
-        self.add_corner(quad.corners[1]);
-        self.add_corner(quad.corners[3]);
-        self.add_corner(quad.corners[2]);
+        self.add_corner(quad.vertices[0]);
+        self.add_corner(quad.vertices[1]);
+        self.add_corner(quad.vertices[2]);
+        self.add_corner(quad.vertices[3]);
     }
 
     fn add_corner(&mut self, corner: u32)

@@ -1,53 +1,111 @@
-ghost use Rattle.std.specs.Prelude.{◌≡◌, ◌≤◌, ◌⊎◌, ◌↔◌, ℕ, map, string_bytes, length, OnOk, OnErr, IfOk, IfErr, IsErrOf, IsSome, None};
+ghost use Rattle.std.specs.Prelude.{◌≡◌, ◌≤◌, ◌⊎◌, ◌↔◌, map, string_bytes, length, true, OnOk, OnErr, IfOk, IfErr, IsErrOf, None, Ok};
 ghost use Rattle.fem_fixed.specs.Mesh.{Mesh};
 ghost use Rattle.fem_text.specs.Causes.{Rose};
 ghost use Rattle.fem_text.specs.Outside.{TookPrefix};
 ghost use Rattle.assemble_core.specs.Words.{mesh_name};
-ghost use Rattle.assemble_core.specs.PlainMesh.{IsPlainMesh, NotPlain};
-ghost use Rattle.assemble_core.specs.Answer.{diagnostic, text_limit, IsMatrixOf, SumFails};
-ghost use Rattle.assemble_core.specs.Run.{Written, WrittenInPart, Refused, IsComplete, NamesText, IsStatus};
-ghost use Rattle.assemble_core.specs.declared.run.Fault.TheVariants.{Words, Read, NotBuilt, Write, Memory};
+ghost use Rattle.assemble_core.specs.Answer.{text_limit, IsMeshOf, IsMatrixOf};
+ghost use Rattle.assemble_core.specs.Run.{Written, WrittenInPart, Told, FaultSays, TextFails, IsComplete, NamesText, is_refusal, is_status, outside_line};
+ghost use Rattle.assemble_core.specs.declared.run.Fault.TheVariants.{Refused, Read, Write};
+ghost use Rattle.assemble_core.specs.declared.refusal.Refusal.TheVariants.{Words};
 
 use crate::assembly::{AssembleFault, assemble};
 use crate::matrix_text::matrix_text;
-use crate::plain_mesh::{PlainFault, read_plain};
+use crate::refusal::{Refusal, put_line};
 use crate::words;
 use fem_text::{Failed, Sink, Store, StoreFault, put_text};
+use quad_mesh::{MeshFault, QuadMesh};
 use std::alloc::Global;
 use std::rt::Runtime;
 use std::thread::Threads;
+use ucd_read::{UcdFault, UcdKind, read_ucd};
 
 // Why a run wrote nothing, or not all.
 #[derive(Clone, Copy)]
 enum Fault {
-    Words,
+    Refused(Refusal),
     Read,
-    NotBuilt,
     Write,
     Memory,
 }
 
+impl From<UcdFault> for Fault {
+    ghost use Rattle.std.specs.Prelude.{◌≡◌};
+    ghost use Rattle.assemble_core.specs.Run.{of_reading};
+
+    ghost from_gives = { λ e fault. fault ≡ of_reading e };
+
+    fn from(error: UcdFault) -> Fault {
+        match error.kind {
+            UcdKind::NoMemory => Fault::Memory,
+            _ => Fault::Refused(Refusal::MeshText(error)),
+        }
+    }
+}
+
+impl From<MeshFault> for Fault {
+    ghost use Rattle.std.specs.Prelude.{◌≡◌};
+    ghost use Rattle.assemble_core.specs.Run.{of_mesh};
+
+    ghost from_gives = { λ e fault. fault ≡ of_mesh e };
+
+    fn from(error: MeshFault) -> Fault {
+        match error {
+            MeshFault::NoMemory => Fault::Memory,
+            _ => Fault::Refused(Refusal::Mesh(error)),
+        }
+    }
+}
+
+impl From<AssembleFault> for Fault {
+    ghost use Rattle.std.specs.Prelude.{◌≡◌};
+    ghost use Rattle.assemble_core.specs.Run.{of_assembly};
+
+    ghost from_gives = { λ e fault. fault ≡ of_assembly e };
+
+    fn from(error: AssembleFault) -> Fault {
+        match error {
+            AssembleFault::Local(cell, fault) => Fault::Refused(Refusal::Local(cell, fault)),
+            AssembleFault::Sum(cell, row) => Fault::Refused(Refusal::Sum(cell, row)),
+            AssembleFault::NoMemory => Fault::Memory,
+        }
+    }
+}
+
 // The greatest length of a text.
 const TEXT_LIMIT: u64 = 268_435_456;
+
+// The coarse mesh of a mesh text.
+#[tactic(auto, unfolding(crate::specs::Answer::text_limit))]
+fn mesh_of(alloc: Global, text: &[u8]) -> Result<QuadMesh, Fault>
+    requires { length text.now ≤ text_limit }
+    ensures mesh { IfOk result (IsMeshOf text.now) }
+    ensures fault { IfErr result (TextFails text.now) }
+{
+    let parts = match read_ucd(alloc, text) {
+        Ok(parts) => parts,
+        Err(fault) => return Err(Fault::from(fault)),
+    };
+    let (_, points, quads, lines) = parts.into_parts();
+    match QuadMesh::new(alloc, points, quads, lines) {
+        Ok(mesh) => Ok(mesh),
+        Err(fault) => Err(Fault::from(fault)),
+    }
+}
 
 // The matrix text of a mesh text.
 #[tactic(auto, unfolding(crate::specs::Answer::text_limit))]
 fn matrix_of(alloc: Global, text: &[u8]) -> Result<Vec<u8>, Fault>
     requires { length text.now ≤ text_limit }
     ensures ok { IfOk result (λ made. IsMatrixOf text.now made.items) }
-    ensures not_built { IsErrOf result NotBuilt → NotPlain text.now ⊎ ((mesh : Mesh) × IsPlainMesh text.now mesh × SumFails mesh) }
-    ensures others { OnErr result (IsErrOf result NotBuilt ⊎ IsErrOf result Memory) }
+    ensures fault { IfErr result (TextFails text.now) }
 {
-    let mesh = match read_plain(alloc, text) {
+    let mesh = match mesh_of(alloc, text) {
         Ok(mesh) => mesh,
-        Err(PlainFault::NotPlain) => return Err(Fault::NotBuilt),
-        Err(PlainFault::NoMemory) => return Err(Fault::Memory),
+        Err(fault) => return Err(fault),
     };
     let matrix = match assemble(alloc, mesh.points(), mesh.quads()) {
         Ok(matrix) => matrix,
-        Err(AssembleFault::Local(_, _)) => return Err(Fault::NotBuilt),
-        Err(AssembleFault::Sum(_)) => return Err(Fault::NotBuilt),
-        Err(AssembleFault::NoMemory) => return Err(Fault::Memory),
+        Err(fault) => return Err(Fault::from(fault)),
     };
     match matrix_text(alloc, matrix.size, &matrix.entries) {
         Ok(made) => Ok(made),
@@ -56,28 +114,28 @@ fn matrix_of(alloc: Global, text: &[u8]) -> Result<Vec<u8>, Fault>
 }
 
 // The text of the mesh that the words name.
-#[tactic(auto, unfolding(crate::specs::Answer::text_limit), using(crate::proofs::AnswerLaws::absent_refused, crate::proofs::AnswerLaws::long_refused, crate::proofs::AnswerLaws::whole_named))]
+#[tactic(auto, unfolding(crate::specs::Answer::text_limit), using(crate::proofs::AnswerLaws::words_refused, crate::proofs::AnswerLaws::absent_refused, crate::proofs::AnswerLaws::long_refused, crate::proofs::AnswerLaws::whole_named))]
 fn mesh_text<S: Store>(alloc: Global, words: &[String], store: &mut S) -> Result<Vec<u8>, Fault>
     ensures named { IfOk result (λ text. NamesText (map string_bytes words.now) (S.holds store.old) text.items) }
     ensures short { IfOk result (λ text. length text.items ≤ text_limit) }
     ensures same { S.holds store.new ≡ S.holds store.old }
-    ensures words { IsErrOf result Words ↔ (mesh_name (map string_bytes words.now) ≡ None) }
-    ensures not_built { IsErrOf result NotBuilt → Refused (map string_bytes words.now) (S.holds store.old) 13 }
+    ensures words { IsErrOf result (Refused Words) ↔ (mesh_name (map string_bytes words.now) ≡ None) }
+    ensures fault { IfErr result (FaultSays (map string_bytes words.now) (S.holds store.old)) }
     ensures read { IsErrOf result Read → Rose (S.faults store.old) (S.faults store.new) }
     ensures kept { (IsErrOf result Read → ⊥) → S.faults store.new ≡ S.faults store.old }
     ensures never { IsErrOf result Write → ⊥ }
 {
     let Some(name) = words::mesh_name(words) else {
-        return Err(Fault::Words);
+        return Err(Fault::Refused(Refusal::Words));
     };
     let text = match store.read(alloc, name, TEXT_LIMIT) {
         Ok(text) => text,
         Err(StoreFault::Failed) => return Err(Fault::Read),
-        Err(StoreFault::Absent) => return Err(Fault::NotBuilt),
+        Err(StoreFault::Absent) => return Err(Fault::Refused(Refusal::Absent)),
         Err(StoreFault::NoMemory) => return Err(Fault::Memory),
     };
     if text.len() as u64 > TEXT_LIMIT {
-        return Err(Fault::NotBuilt);
+        return Err(Fault::Refused(Refusal::MeshSize));
     }
     Ok(text)
 }
@@ -93,8 +151,8 @@ fn work<S: Store, K: Sink>(
     ensures ok { OnOk result (Written (map string_bytes words.now) (S.holds store.old) (K.taken out.old) (K.taken out.new)) }
     ensures store { S.holds store.new ≡ S.holds store.old }
     ensures out { OnErr result ((IsErrOf result Write → ⊥) → K.taken out.new ≡ K.taken out.old) }
-    ensures words { IsErrOf result Words ↔ (mesh_name (map string_bytes words.now) ≡ None) }
-    ensures not_built { IsErrOf result NotBuilt → Refused (map string_bytes words.now) (S.holds store.old) 13 }
+    ensures words { IsErrOf result (Refused Words) ↔ (mesh_name (map string_bytes words.now) ≡ None) }
+    ensures fault { IfErr result (FaultSays (map string_bytes words.now) (S.holds store.old)) }
     ensures read { IsErrOf result Read → Rose (S.faults store.old) (S.faults store.new) }
     ensures write { IsErrOf result Write → Rose (K.faults out.old) (K.faults out.new) }
     ensures counts { (IsErrOf result Read → ⊥) → S.faults store.new ≡ S.faults store.old }
@@ -112,11 +170,24 @@ fn work<S: Store, K: Sink>(
 /// The program: reads the mesh that the words name, and writes the matrix of its diffusion problem to `out`.
 ///
 /// The words are `--mesh NAME` or `--mode serial --mesh NAME`. The status is 0 where the matrix text was
-/// written; 2 where the words have another form; 10 where the read failed; 11 where a put to `out` failed,
-/// which then took a prefix of the text; 12 where memory ran out; 13 where the mesh isn't held, its text is
-/// above 268,435,456 bytes or isn't in plain form, or the sum fails. With each status but 0 one line goes to
-/// `err`, last. Nothing is written with a status other than 0 and 11. It always returns.
-#[tactic(auto, using(crate::proofs::AnswerLaws::words_refused, crate::proofs::AnswerLaws::refused_complete, crate::proofs::AnswerLaws::written_complete, crate::proofs::AnswerLaws::memory_complete))]
+/// written, and else one of these, in the order of work:
+///
+/// | Status | Where |
+/// |---|---|
+/// | 2 | the words have another form |
+/// | 10 | the read failed |
+/// | 17 | the mesh isn't held |
+/// | 9 | the mesh text is above 268,435,456 bytes, or counts more than its limits allow |
+/// | 3 | the mesh text has another fault |
+/// | 5 | the coarse mesh has a fault |
+/// | 7 | the local form of a cell has a fault |
+/// | 8 | an addition passes 2^80 in size |
+/// | 11 | a put to `out` failed, which then took a prefix of the text |
+/// | 12 | memory ran out |
+///
+/// With each status but 0 one line goes to `err`, last. Nothing is written with a status other than 0 and 11.
+/// It always returns.
+#[tactic(auto, using(crate::proofs::AnswerLaws::refused_complete, crate::proofs::AnswerLaws::written_complete, crate::proofs::AnswerLaws::memory_complete))]
 pub fn run_plain<R: Runtime + Threads, S: Store, K: Sink>(
     _rt: &R,
     alloc: Global,
@@ -129,8 +200,8 @@ pub fn run_plain<R: Runtime + Threads, S: Store, K: Sink>(
     ensures ok { result ≡ 0 → Written (map string_bytes words.now) (S.holds store.old) (K.taken out.old) (K.taken out.new) }
     ensures ok_silent { result ≡ 0 → K.taken err.new ≡ K.taken err.old }
 
-    // Statuses 2 and 13: the words and the held texts define that refusal.
-    ensures refusal { (result ≡ 2) ⊎ (result ≡ 13) → Refused (map string_bytes words.now) (S.holds store.old) result }
+    // Statuses 2, 3, 5, 7, 8, 9 and 17: the words and the held texts define a refusal with this status, and its line was put.
+    ensures refusal { is_refusal result ≡ true → Told (map string_bytes words.now) (S.holds store.old) (K.taken err.old) (K.taken err.new) result }
     ensures refusal_words { (result ≡ 2) ↔ (mesh_name (map string_bytes words.now) ≡ None) }
 
     // Statuses 10 and 11: a count of faults rose, and only then.
@@ -139,48 +210,45 @@ pub fn run_plain<R: Runtime + Threads, S: Store, K: Sink>(
     ensures outside_part { result ≡ 11 → WrittenInPart (map string_bytes words.now) (S.holds store.old) (K.taken out.old) (K.taken out.new) }
     ensures outside_reads { (result ≡ 10 → ⊥) → S.faults store.new ≡ S.faults store.old }
     ensures outside_puts { (result ≡ 11 → ⊥) → K.faults out.new ≡ K.faults out.old }
+    ensures outside_line { (result ≡ 10) ⊎ (result ≡ 11) ⊎ (result ≡ 12) → TookPrefix (K.taken err.old) (K.taken err.new) (outside_line result) }
 
     // Where no count rose, the status is that of the answer, or 12.
     ensures completeness { IsComplete (map string_bytes words.now) (S.holds store.old) (S.faults store.old) (S.faults store.new) (K.faults out.old) (K.faults out.new) result }
-    ensures completeness_statuses { IsStatus result }
+    ensures completeness_statuses { is_status result ≡ true }
 
     // Nothing is written with a status other than 0 and 11, and so with 12, want of memory.
     ensures memory { (result ≡ 0 → ⊥) → (result ≡ 11 → ⊥) → K.taken out.new ≡ K.taken out.old }
     ensures memory_store { S.holds store.new ≡ S.holds store.old }
-
-    // Each status other than 0 puts its line.
-    ensures diagnosed { (result ≡ 0 → ⊥) → TookPrefix (K.taken err.old) (K.taken err.new) (diagnostic result) }
 {
-    let status = match work(alloc, words, store, out) {
-        Ok(()) => return 0,
-        Err(Fault::Words) => 2,
-        Err(Fault::Read) => 10,
-        Err(Fault::NotBuilt) => 13,
-        Err(Fault::Write) => 11,
-        Err(Fault::Memory) => 12,
-    };
-    report(err, status);
+    match work(alloc, words, store, out) {
+        Ok(()) => 0,
+        Err(Fault::Refused(refusal)) => {
+            refusal.put_line(err);
+            refusal.status()
+        }
+        Err(Fault::Read) => report(err, 10),
+        Err(Fault::Write) => report(err, 11),
+        Err(Fault::Memory) => report(err, 12),
+    }
+}
+
+// Puts the line of status 10, 11 or 12, and answers the status.
+fn report<K: Sink>(err: &mut K, status: u8) -> u8
+    ensures status { result ≡ status }
+    ensures line { TookPrefix (K.taken err.old) (K.taken err.new) (outside_line status) }
+{
+    put_line(err, outside_line(status));
     status
 }
 
-// Puts the line of a status, or a prefix of it.
-#[tactic(auto, using(crate::proofs::AnswerLaws::took_whole))]
-fn report<K: Sink>(err: &mut K, status: u8)
-    ensures { TookPrefix (K.taken err.old) (K.taken err.new) (diagnostic status) }
-{
-    let _ = put_text(err, diagnostic_line(status));
-}
-
-// The line that goes to the diagnostics with a status.
-#[tactic(auto, unfolding(crate::specs::Answer::diagnostic))]
-fn diagnostic_line(status: u8) -> &'static [u8]
-    ensures { result.now ≡ diagnostic status }
+// The line of status 10, 11 or 12.
+#[tactic(auto, unfolding(crate::specs::Run::outside_line))]
+fn outside_line(status: u8) -> &'static [u8]
+    ensures { result.now ≡ outside_line status }
 {
     match status {
-        2 => b"assemble: 2 Words\n",
         10 => b"assemble: 10 ReadFault mesh\n",
         11 => b"assemble: 11 WriteFault matrix\n",
-        13 => b"assemble: 13 NotBuilt\n",
         _ => b"assemble: 12 NoMemory\n",
     }
 }

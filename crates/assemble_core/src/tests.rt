@@ -1,7 +1,10 @@
 use super::*;
 use fem_text::{MemorySink, MemoryStore};
 use std::alloc::Global;
+use std::process::Abort;
+use std::rt::Runtime;
 use std::test::Fail;
+use std::thread::Threads;
 
 const SQUARE: &str = "4 1 0 0 0\n1 0 0 0\n2 1 0 0\n3 1 1 0\n4 0 1 0\n1 1 quad 1 2 3 4\n";
 
@@ -40,31 +43,116 @@ fn the_unit_square_has_its_matrix(rt: HostRuntime) -> Result<(), Fail> {
     Ok(())
 }
 
+fn square_with(alloc: Global, cells: &str) -> Result<String, Fail> {
+    let text = format!(in alloc; "4 1 0 0 0\n1 0 0 0\n2 1 0 0\n3 1 1 0\n4 0 1 0\n{cells}\n")?;
+    Ok(text)
+}
+
+// A run that is to end with this status and this line, with nothing written.
+fn refused<R: Runtime + Threads + Abort>(
+    rt: &R,
+    alloc: Global,
+    name: &str,
+    text: &str,
+    status: u8,
+    line: &str,
+) -> Result<(), Fail> {
+    let mut store = store_with(alloc, text, Vec::new(alloc))?;
+    let mut out = MemorySink::new(alloc, 4096, Vec::new(alloc))?;
+    let mut err = MemorySink::new(alloc, 4096, Vec::new(alloc))?;
+    let words = words_of(alloc, &["--mesh", name])?;
+    let ended = run_plain(rt, alloc, words.as_slice(), &mut store, &mut out, &mut err);
+    assert_eq!(rt; ended, status, "{line}");
+    assert_eq!(rt; out.taken().len(), 0);
+    assert_eq!(rt; err.taken(), line.as_bytes());
+    Ok(())
+}
+
 #[test]
-fn each_refusal_has_its_line_and_writes_nothing(rt: HostRuntime) -> Result<(), Fail> {
-    let alloc = rt.alloc();
-    let cut = "4 1 0 0 0\n1 0 0 0\n2 1 0 0\n3 1 1 0\n4 0 1 0\n";
-    let clockwise = "4 1 0 0 0\n1 0 0 0\n2 1 0 0\n3 1 1 0\n4 0 1 0\n1 1 quad 1 4 3 2\n";
-    let longer = "4 1 0 0 0\n1 0 0 0\n2 1 0 0\n3 1 1 0\n4 0 1 0\n1 1 quad 1 2 3 4\n\n";
+fn words_names_and_texts_are_refused(rt: HostRuntime) -> Result<(), Fail> {
+    let cut = "4 1 0 0 0\n1 0 0 0\n2 1 0 0\n3 1 1 0\n";
     let cases = [
         ("", SQUARE, 2, "assemble: 2 Words\n"),
         ("-mesh", SQUARE, 2, "assemble: 2 Words\n"),
-        ("other", SQUARE, 13, "assemble: 13 NotBuilt\n"),
-        ("mesh", "", 13, "assemble: 13 NotBuilt\n"),
-        ("mesh", cut, 13, "assemble: 13 NotBuilt\n"),
-        ("mesh", clockwise, 13, "assemble: 13 NotBuilt\n"),
-        ("mesh", longer, 13, "assemble: 13 NotBuilt\n"),
+        ("other", SQUARE, 17, "assemble: 17 Absent mesh\n"),
+        ("mesh", "", 3, "assemble: 3 MeshText line 1 TooFew\n"),
+        ("mesh", cut, 3, "assemble: 3 MeshText line 5 TooFew\n"),
+        (
+            "mesh",
+            "1048577 0 0 0 0\n",
+            9,
+            "assemble: 9 Limit MeshCount line 1\n",
+        ),
     ];
     for (name, text, status, line) in cases {
-        let mut store = store_with(alloc, text, Vec::new(alloc))?;
-        let mut out = MemorySink::new(alloc, 4096, Vec::new(alloc))?;
-        let mut err = MemorySink::new(alloc, 4096, Vec::new(alloc))?;
-        let words = words_of(alloc, &["--mesh", name])?;
-        let ended = run_plain(&rt, alloc, words.as_slice(), &mut store, &mut out, &mut err);
-        assert_eq!(rt; ended, status, "with the name {name}");
-        assert_eq!(rt; out.taken().len(), 0);
-        assert_eq!(rt; err.taken(), line.as_bytes());
+        refused(&rt, rt.alloc(), name, text, status, line)?;
     }
+    Ok(())
+}
+
+#[test]
+fn cells_and_lines_of_the_square_are_refused(rt: HostRuntime) -> Result<(), Fail> {
+    let alloc = rt.alloc();
+    let cases = [
+        (
+            "1 1 tri 1 2 3",
+            3,
+            "assemble: 3 MeshText line 6 UnsupportedType\n",
+        ),
+        (
+            "1 1 quad 1 2 3 9",
+            3,
+            "assemble: 3 MeshText line 6 UnknownNode\n",
+        ),
+        (
+            "1 1 quad 1 2 3",
+            3,
+            "assemble: 3 MeshText line 6 CellLine\n",
+        ),
+        ("1 1 quad 1 1 3 4", 5, "assemble: 5 Mesh RepeatedCorner 0\n"),
+        ("1 1 quad 1 2 4 3", 5, "assemble: 5 Mesh ZeroArea 0\n"),
+    ];
+    for (cells, status, line) in cases {
+        let text = square_with(alloc, cells)?;
+        refused(&rt, rt.alloc(), "mesh", text.as_str(), status, line)?;
+    }
+    Ok(())
+}
+
+#[test]
+fn coarse_meshes_and_cells_are_refused(rt: HostRuntime) -> Result<(), Fail> {
+    let bent = "4 1 0 0 0\n1 0 0 0\n2 4 0 0\n3 1 1 0\n4 0 4 0\n1 1 quad 1 2 3 4\n";
+    let shared =
+        "4 3 0 0 0\n1 0 0 0\n2 1 0 0\n3 1 1 0\n4 0 1 0\n1 1 quad 1 2 3 4\n1 1 quad 1 2 3 4\n1 1 quad 1 2 3 4\n";
+    let stray = "4 2 0 0 0\n1 0 0 0\n2 1 0 0\n3 1 1 0\n4 0 1 0\n1 1 quad 1 2 3 4\n2 5 line 1 3\n";
+    let twice =
+        "4 3 0 0 0\n1 0 0 0\n2 1 0 0\n3 1 1 0\n4 0 1 0\n1 1 quad 1 2 3 4\n2 5 line 1 2\n3 6 line 2 1\n";
+    let tiny =
+        "8 2 0 0 0\n1 0 0 0\n2 1 0 0\n3 1 1 0\n4 0 1 0\n5 10 0 0\n6 10.0000152587890625 0 0\n7 10 0.0000152587890625 0\n8 10 0.0000152587890625 0\n1 1 quad 1 2 3 4\n2 1 quad 5 6 7 8\n";
+    let cases = [
+        (bent, 5, "assemble: 5 Mesh NotConvex 0\n"),
+        (shared, 5, "assemble: 5 Mesh EdgeShared 2\n"),
+        (stray, 5, "assemble: 5 Mesh LineOffEdge 0\n"),
+        (twice, 5, "assemble: 5 Mesh BoundaryTwice 1\n"),
+        (tiny, 7, "assemble: 7 Local cell 1 Distorted\n"),
+    ];
+    for (text, status, line) in cases {
+        refused(&rt, rt.alloc(), "mesh", text, status, line)?;
+    }
+    Ok(())
+}
+
+#[test]
+fn a_clockwise_cell_is_turned(rt: HostRuntime) -> Result<(), Fail> {
+    let alloc = rt.alloc();
+    let text = square_with(alloc, "1 1 quad 1 4 3 2")?;
+    let mut store = store_with(alloc, text.as_str(), Vec::new(alloc))?;
+    let mut out = MemorySink::new(alloc, 4096, Vec::new(alloc))?;
+    let mut err = MemorySink::new(alloc, 4096, Vec::new(alloc))?;
+    let words = words_of(alloc, &["--mesh", "mesh"])?;
+    let status = run_plain(&rt, alloc, words.as_slice(), &mut store, &mut out, &mut err);
+    assert_eq!(rt; status, 0);
+    assert_eq!(rt; out.taken(), SQUARE_MATRIX.as_bytes());
     Ok(())
 }
 
@@ -186,8 +274,13 @@ fn meshes_that_share_nodes_have_the_sum_of_the_definition(rt: HostRuntime) -> Re
 4 1 quad 5 6 9 8\n3 1 quad 4 5 8 7\n1 1 quad 1 2 5 4\n2 1 quad 2 3 6 5\n";
     let twice =
         "4 2 0 0 0\n1 0 0 0\n2 1 0 0\n3 1 1 0\n4 0 1 0\n1 1 quad 1 2 3 4\n2 1 quad 1 2 3 4\n";
-    let cases: [(&str, &[[u32; 4]]); 4] = [
+    let written =
+        "# made by a writer\n# second comment\n6 3 1 0 0\n70 0.0 0.0 0.0\n9 1e0 0 0\n11 2.00 0 -0\n12 0 10.0E-01 0\n13 1 1 0\n14 2 1. 0\n\
+1 1 quad 70 9 13 12\n2 1 quad 9 11 14 13\n3 7 line 70 12\n1 1\nheight, none\n70 0.25\n";
+    let cases: [(&str, &[[u32; 4]]); 6] = [
+        ("0 0 0 0 0\n", &[]),
         (edge, &[[1, 2, 4, 5], [2, 3, 5, 6]]),
+        (written, &[[1, 2, 4, 5], [2, 3, 5, 6]]),
         (corner, &[[1, 2, 3, 4], [4, 5, 6, 7]]),
         (
             around,

@@ -1,11 +1,11 @@
 use Rattle.std.proofs.Common.{[], length, map, subst, arith, ◌≡◌, ℕ}
-use Rattle.fem_fixed.specs.declared.mesh.QuadSpec.{QuadSpec}
+use Rattle.quad_mesh.specs.declared.cells.Quad.{Quad}
 use Rattle.assemble_core.specs.CellSteps.{table_block, Reaches}
 use Rattle.assemble_core.proofs.FailureLaws.{reaches_none, cell_fails, cell_reaches}
 use Rattle.assemble_core.proofs.assembly.add_cells.Goals as goal
 
-blank : QuadSpec
-blank = record { material = 0; corners = [] }
+blank : Quad
+blank = record { material = 0; vertices = [] }
 
 pub add_cell-requires-clause-corners : goal.add_cell-requires-clause-corners
 unfolding blank

@@ -1,28 +1,32 @@
-use Rattle.std.proofs.Common.{arith, ◌≡◌, length, subst, ℕ}
+use Rattle.std.proofs.Common.{arith, ◌≡◌, ◌∙◌, sym, ap, length, subst, ℕ, ◌+◌}
+use Rattle.std.specs.Prelude.{slice_index}
+use Rattle.std.specs.declared.option.Option.{Option}
 use Rattle.std.specs.List.{range_with_len, flat_map}
-use Rattle.std.proofs.lemmas.Result.{err_from_is_err_and}
 use Rattle.assemble_core.specs.SerialSum.{row_contributions}
-use Rattle.assemble_core.specs.Sums.{AddsAll}
-use Rattle.assemble_core.proofs.SumSteps.{adds_none, rows_add, rows_pass}
+use Rattle.assemble_core.specs.Sums.{AddsUpTo}
+use Rattle.assemble_core.proofs.SumSteps.{start, rows_add, least_after}
 use Rattle.assemble_core.proofs.sums.add_matrix.Goals as goal
+use Rattle.assemble_core.proofs.sums.add_matrix.Goals.{then-not-branch, else-not-branch}
 
 pub loop-i-init : goal.loop-i-init
-loop-i-init c = record { adds = adds_none c.args.sums.now; small = c.requires.small }
+loop-i-init c = record { adds = start c.args.sums.now; small = c.requires.small }
 
 pub loop-i-preserved : goal.loop-i-preserved
-loop-i-preserved c = record {
-  adds = rows_add c.args.sums.now c.loop-i.sums c.add_row.new.sums (row_contributions c.args.dofs.now c.args.matrix.now) c.loop-i.i c.loop-i.invariant.adds c.in_ok-add_row.ensures.ok;
-  small = c.in_ok-add_row.ensures.small;
-}
+loop-i-preserved c =
+    let row : ℕ = slice_index c.args.dofs.now c.loop-i.i in
+    let now : least_after c.loop-i.least c.in_ok-add_row.field-0 row ≡ c.if-not-branch.least = elim c.if-not-branch.branch [
+      | then-not-branch w ↦ ap (λ b. least_after c.loop-i.least b row) w.if-not-branch.true ∙ sym w.lower-least.ensures ∙ sym w.least-is
+      | else-not-branch w ↦ ap (λ b. least_after c.loop-i.least b row) w.if-not-branch.false ∙ sym w.least-is
+    ] in
+    let P : Option ℕ → Type 0 = λ least. AddsUpTo c.args.sums.now c.add_row.new.sums (flat_map (row_contributions c.args.dofs.now c.args.matrix.now) (range_with_len 0 (c.loop-i.i + 1))) least in
+    record {
+      adds = subst P now (rows_add c.args.sums.now c.loop-i.sums c.add_row.new.sums (row_contributions c.args.dofs.now c.args.matrix.now) c.loop-i.i c.loop-i.least c.in_ok-add_row.field-0 row
+          c.loop-i.invariant.adds c.in_ok-add_row.ensures.added);
+      small = c.in_ok-add_row.ensures.small;
+    }
 
-pub returns-clause-ok : goal.returns-clause-ok
-returns-clause-ok c =
+pub returns-clause-added : goal.returns-clause-added
+returns-clause-added c =
     let all : c.loop-i.i ≡ length c.args.dofs.now = omega arith in
-    let P : ℕ → Type 0 = λ n. AddsAll c.args.sums.now c.loop-i.sums (flat_map (row_contributions c.args.dofs.now c.args.matrix.now) (range_with_len 0 n)) in
+    let P : ℕ → Type 0 = λ n. AddsUpTo c.args.sums.now c.loop-i.sums (flat_map (row_contributions c.args.dofs.now c.args.matrix.now) (range_with_len 0 n)) c.loop-i.least in
     subst P all c.loop-i.invariant.adds
-
-pub returns-in_err-add_row-clause-limit : goal.returns-in_err-add_row-clause-limit
-returns-in_err-add_row-clause-limit c = λ fault.
-    let p = err_from_is_err_and c.from_residual.result c.from_residual.ensures.1 in
-    rows_pass c.args.sums.now c.loop-i.sums (row_contributions c.args.dofs.now c.args.matrix.now) c.loop-i.i (length c.args.dofs.now) (omega arith) c.loop-i.invariant.adds
-    (c.in_err-add_row.ensures.limit (cc (p.1, p.2, fault)))

@@ -1,0 +1,12 @@
+pub mod Faults
+pub mod Lines
+pub mod LineSteps
+pub mod Words
+pub mod Header
+pub mod Nodes
+pub mod NodeTable
+pub mod Cells
+pub mod Reading
+pub mod Ucd
+pub mod Tables
+pub mod Bounds

@@ -1,0 +1,54 @@
+ghost use Rattle.std.specs.Prelude.{◌≡◌, ◌≤◌, ◌^◌, IfOk, IfErr, OnOk};
+ghost use Rattle.fem_text.specs.Lines.{words_of};
+ghost use Rattle.ucd_read.specs.Header.{header_line};
+ghost use Rattle.ucd_read.specs.Lines.{behind, from_header};
+ghost use Rattle.ucd_read.specs.Reading.{IsFault};
+ghost use Rattle.ucd_read.specs.Ucd.{HasHeader};
+
+use crate::fault::at_line;
+use crate::lines::WordLines;
+use crate::words::{exactly, id_at};
+use crate::{UcdFault, UcdKind};
+use fem_text::TextLine;
+
+const NODE_LIMIT: u32 = 1 << 20;
+
+const CELL_LIMIT: u32 = 1 << 21;
+
+/// How many nodes and cells a text has.
+#[derive(Clone, Copy)]
+pub(crate) struct Header {
+    pub(crate) nodes: u32,
+    pub(crate) cells: u32,
+}
+
+/// Reads the header, behind the comments.
+pub(crate) fn read_header(lines: &mut WordLines) -> Result<Header, UcdFault>
+    ensures ok { IfOk result (HasHeader (from_header lines.old)) }
+    ensures nodes { IfOk result (λ header. header.nodes ≤ 2 ^ 20) }
+    ensures cells { IfOk result (λ header. header.cells ≤ 2 ^ 21) }
+    ensures lines { OnOk result (lines.new ≡ behind 1 (from_header lines.old)) }
+    ensures err { IfErr result (λ fault. IsFault header_line (from_header lines.old) 0 fault.kind fault.line) }
+{
+    let line = lines.expect_header()?;
+    at_line(header_line(&line), &line)
+}
+
+#[tactic(auto, unfolding(crate::specs::Header::header_line))]
+pub(crate) fn header_line(line: &TextLine) -> Result<Header, UcdKind>
+    ensures value { result ≡ header_line (words_of line.now.bytes.now) }
+    ensures nodes { IfOk result (λ header. header.nodes ≤ 2 ^ 20) }
+    ensures cells { IfOk result (λ header. header.cells ≤ 2 ^ 21) }
+{
+    exactly(5, UcdKind::Header, line)?;
+    let nodes = id_at(UcdKind::Header, line, 0)?;
+    let cells = id_at(UcdKind::Header, line, 1)?;
+    id_at(UcdKind::Header, line, 2)?;
+    id_at(UcdKind::Header, line, 3)?;
+    id_at(UcdKind::Header, line, 4)?;
+    if nodes <= NODE_LIMIT && cells <= CELL_LIMIT {
+        Ok(Header { nodes, cells })
+    } else {
+        Err(UcdKind::Limit)
+    }
+}

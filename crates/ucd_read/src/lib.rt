@@ -1,0 +1,15 @@
+//! Mesh texts in AVS UCD: quadrilaterals, and lines that carry boundary ids.
+#![tactic(auto)]
+
+mod cells;
+mod fault;
+mod header;
+mod lines;
+mod nodes;
+mod reader;
+#[cfg(test)]
+mod tests;
+mod words;
+
+pub use fault::{UcdFault, UcdKind};
+pub use reader::{one_reading, read_ucd};
