@@ -1,9 +1,14 @@
 -- A text that is put in parts.
-use Rattle.std.proofs.Common.{◌≡◌, ◌∙◌, sym, ap, refl, ℕ, suc, ◌+◌, ◌≤◌, List, [], ◌∷◌, ◌++◌, length, take, arith, append_assoc}
+use Rattle.std.proofs.Common.{◌≡◌, ◌∙◌, sym, ap, refl, ℕ, suc, ◌+◌, ◌≤◌, List, [], ◌∷◌, ◌++◌, length, take, arith, append_assoc, inl, inr}
 use Rattle.std.specs.Prelude.{Some, None}
 use Rattle.std.specs.declared.option.Option.{Option}
 use Rattle.std.proofs.lemmas.Grind.{common_steps}
+use Rattle.std.specs.Prelude.{Ok, Err, OnOk, OnErr}
+use Rattle.std.specs.declared.result.Result.{Result}
+use Rattle.fem_text.specs.declared.sink.Failed.{Failed}
+use Rattle.fem_text.specs.Causes.{HasCause}
 use Rattle.fem_text.specs.Outside.{appended, TookPrefix}
+use Rattle.assemble_core.specs.Refusals.{TookLine}
 
 -- all of a text is a prefix too
 pub took_whole : (out now : Option (List ℕ)) (text : List ℕ) → now ≡ appended out text → TookPrefix out now text
@@ -43,3 +48,15 @@ took_back out mid now front back e (n, short, f) =
       where
         counted : (n m : ℕ) → suc m + n ≡ suc (m + n)
         counted n m = omega arith
+
+-- what a put of a line says, whether it failed or not
+pub told_line : (out now : Option (List ℕ)) (faults faults_now : ℕ) (line : List ℕ) (answer : Result (Unit {0}) Failed) → OnOk answer (now ≡ appended out line) →
+    OnErr answer (TookPrefix out now line) → HasCause faults faults_now answer → TookLine out now faults faults_now line
+told_line out now faults faults_now line (Ok u) ok err cause = inl ok
+told_line out now faults faults_now line (Err e) ok err cause = inr (cause.failed, err)
+
+-- the same of a line that is put in parts
+pub told_parts : (out now : Option (List ℕ)) (faults faults_now : ℕ) (line : List ℕ) (answer : Result (Unit {0}) Failed) → OnOk answer (now ≡ appended out line) →
+    TookPrefix out now line → HasCause faults faults_now answer → TookLine out now faults faults_now line
+told_parts out now faults faults_now line (Ok u) ok part cause = inl ok
+told_parts out now faults faults_now line (Err e) ok part cause = inr (cause.failed, part)

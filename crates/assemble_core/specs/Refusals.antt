@@ -1,5 +1,8 @@
 -- The statuses of refusals, and their lines for the diagnostics.
-use Rattle.std.specs.Prelude.{ℕ, List, [], ◌++◌, codes, decimal}
+use Rattle.std.specs.Prelude.{◌≡◌, ◌⊎◌, ℕ, List, [], ◌++◌, codes, decimal}
+use Rattle.std.specs.declared.option.Option.{Option}
+use Rattle.fem_text.specs.Causes.{Rose}
+use Rattle.fem_text.specs.Outside.{appended, TookPrefix}
 use Rattle.fixed_q1.specs.declared.fault.LocalFault.{LocalFault}
 use Rattle.fixed_q1.specs.declared.fault.LocalFault.TheVariants.{Distorted, Size}
 use Rattle.quad_mesh.specs.declared.fault.MeshFault.{MeshFault}
@@ -77,3 +80,7 @@ line_of (MeshText fault) = numbered (text_front fault.kind) fault.line (text_bac
 line_of (Mesh fault) = numbered (mesh_front fault) (mesh_place fault) (codes "\n")
 line_of (Local cell fault) = numbered (codes "assemble: 7 Local cell ") cell (local_back fault)
 line_of (Sum cell row) = sum_line cell row
+
+-- a sink took this line; or a put to it failed, and it took a prefix
+abbrev pub TookLine : Option (List ℕ) → Option (List ℕ) → ℕ → ℕ → List ℕ → Type 0
+TookLine before now faults faults_now line = (now ≡ appended before line) ⊎ (Rose faults faults_now × TookPrefix before now line)

@@ -16,7 +16,7 @@ use Rattle.assemble_core.specs.declared.refusal.Refusal.TheVariants as refusals
 use Rattle.assemble_core.specs.declared.run.Fault.{Fault}
 use Rattle.assemble_core.specs.declared.run.Fault.TheVariants.{Refused, Read, Write, Memory}
 use Rattle.assemble_core.specs.Words.{mesh_name}
-use Rattle.assemble_core.specs.Refusals.{status_of, line_of}
+use Rattle.assemble_core.specs.Refusals.{status_of, line_of, TookLine}
 use Rattle.assemble_core.specs.Answer.{Answer, refuses, writes, Answers, answer_status, HasNoMatrix}
 
 -- the words and held texts define a text, and the output took it and nothing else
@@ -37,12 +37,12 @@ Refuses words held refusal = IfSome held (λ texts. Answers words texts (refuses
 abbrev pub is_refusal : ℕ → Bool
 is_refusal status = list_any (λ number. number == status) (2 ∷ 3 ∷ 5 ∷ 7 ∷ 8 ∷ 9 ∷ 17 ∷ [])
 
--- they define a refusal with this status, and the diagnostics took its line, or a prefix of it
-pub record Told (words : List (List ℕ)) (held : Option Held) (err now : Option (List ℕ)) (status : ℕ) : Type 0 where
+-- they define a refusal with this status, and the diagnostics took its line, or a prefix where a put failed
+pub record Told (words : List (List ℕ)) (held : Option Held) (err now : Option (List ℕ)) (faults faults_now status : ℕ) : Type 0 where
   pub refusal : Refusal
   pub status_is : status ≡ status_of refusal
   pub refuses : Refuses words held refusal
-  pub line : TookPrefix err now (line_of refusal)
+  pub line : TookLine err now faults faults_now (line_of refusal)
 
 -- the line that goes to the diagnostics with 10, 11 or 12
 unfoldable pub outside_line : ℕ → List ℕ

@@ -1,8 +1,8 @@
 ghost use Rattle.std.specs.Prelude.{◌≡◌, ◌≤◌, ◌⊎◌, ◌↔◌, map, string_bytes, length, true, OnOk, OnErr, IfOk, IfErr, IsErrOf, None, Ok};
 ghost use Rattle.fem_fixed.specs.Mesh.{Mesh};
 ghost use Rattle.fem_text.specs.Causes.{Rose};
-ghost use Rattle.fem_text.specs.Outside.{TookPrefix};
 ghost use Rattle.assemble_core.specs.Words.{mesh_name};
+ghost use Rattle.assemble_core.specs.Refusals.{TookLine};
 ghost use Rattle.assemble_core.specs.Answer.{text_limit, IsMeshOf, IsMatrixOf};
 ghost use Rattle.assemble_core.specs.Run.{Written, WrittenInPart, Told, FaultSays, TextFails, IsComplete, NamesText, is_refusal, is_status, outside_line};
 ghost use Rattle.assemble_core.specs.declared.run.Fault.TheVariants.{Refused, Read, Write};
@@ -200,8 +200,9 @@ pub fn run_plain<R: Runtime + Threads, S: Store, K: Sink>(
     ensures ok { result ≡ 0 → Written (map string_bytes words.now) (S.holds store.old) (K.taken out.old) (K.taken out.new) }
     ensures ok_silent { result ≡ 0 → K.taken err.new ≡ K.taken err.old }
 
-    // Statuses 2, 3, 5, 7, 8, 9 and 17: the words and the held texts define a refusal with this status, and its line was put.
-    ensures refusal { is_refusal result ≡ true → Told (map string_bytes words.now) (S.holds store.old) (K.taken err.old) (K.taken err.new) result }
+    // Statuses 2, 3, 5, 7, 8, 9 and 17: the words and the held texts define a refusal with this status, and its line was
+    // taken, or a prefix of it where a put to `err` failed.
+    ensures refusal { is_refusal result ≡ true → Told (map string_bytes words.now) (S.holds store.old) (K.taken err.old) (K.taken err.new) (K.faults err.old) (K.faults err.new) result }
     ensures refusal_words { (result ≡ 2) ↔ (mesh_name (map string_bytes words.now) ≡ None) }
 
     // Statuses 10 and 11: a count of faults rose, and only then.
@@ -210,7 +211,7 @@ pub fn run_plain<R: Runtime + Threads, S: Store, K: Sink>(
     ensures outside_part { result ≡ 11 → WrittenInPart (map string_bytes words.now) (S.holds store.old) (K.taken out.old) (K.taken out.new) }
     ensures outside_reads { (result ≡ 10 → ⊥) → S.faults store.new ≡ S.faults store.old }
     ensures outside_puts { (result ≡ 11 → ⊥) → K.faults out.new ≡ K.faults out.old }
-    ensures outside_line { (result ≡ 10) ⊎ (result ≡ 11) ⊎ (result ≡ 12) → TookPrefix (K.taken err.old) (K.taken err.new) (outside_line result) }
+    ensures outside_line { (result ≡ 10) ⊎ (result ≡ 11) ⊎ (result ≡ 12) → TookLine (K.taken err.old) (K.taken err.new) (K.faults err.old) (K.faults err.new) (outside_line result) }
 
     // Where no count rose, the status is that of the answer, or 12.
     ensures completeness { IsComplete (map string_bytes words.now) (S.holds store.old) (S.faults store.old) (S.faults store.new) (K.faults out.old) (K.faults out.new) result }
@@ -235,7 +236,7 @@ pub fn run_plain<R: Runtime + Threads, S: Store, K: Sink>(
 // Puts the line of status 10, 11 or 12, and answers the status.
 fn report<K: Sink>(err: &mut K, status: u8) -> u8
     ensures status { result ≡ status }
-    ensures line { TookPrefix (K.taken err.old) (K.taken err.new) (outside_line status) }
+    ensures line { TookLine (K.taken err.old) (K.taken err.new) (K.faults err.old) (K.faults err.new) (outside_line status) }
 {
     put_line(err, outside_line(status));
     status
