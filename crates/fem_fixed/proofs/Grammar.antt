@@ -1,13 +1,12 @@
 -- The grammar of number words, and the splitting of a word into its parts.
-use Rattle.std.proofs.Common.{◌≡◌, ◌∙◌, ◌⊎◌, sym, ap, refl, subst, ℕ, ◌+◌, ◌<◌, List, [], ◌∷◌, ◌++◌, length, Bool, true, false, arith, inl, inr, append_assoc, append-nil}
+use Rattle.std.proofs.Common.{◌≡◌, ◌∙◌, sym, ap, refl, subst, ℕ, List, [], ◌∷◌, ◌++◌, length, Bool, true, false, arith, inl, inr, append-nil}
 use Rattle.std.specs.Prelude.{◌||◌, ◌&&◌, ◌==◌, not, nat_lt, if◌then◌else◌}
 use Rattle.std.specs.Char.{is_ascii_digit}
 use Rattle.std.specs.List.{list_any, list_all, before_first, after_first}
-use Rattle.std.proofs.lemmas.Grind.{common_steps}
 use Rattle.std.proofs.lemmas.Bool.{cases_Bool}
 use Rattle.std.proofs.lemmas.List.Folds.{list_all-append}
 use Rattle.fem_fixed.specs.Ticks.{NumberParts, is_point, is_exponent_mark, has_minus, without_sign, is_digits, is_number, parts_of}
-use Rattle.fem_fixed.specs.NumberWords.{IsSign, IsMantissa, IsExponent, IsPower, IsNumberWord}
+use Rattle.fem_fixed.specs.NumberWords.{IsSign, IsMantissa, IsPower, IsNumberWord}
 use Rattle.fem_fixed.proofs.Splits.{before_none, after_none, before_at, after_at, any_at, put_together}
 
 and_left : (a b : Bool) → (a && b) ≡ true → a ≡ true

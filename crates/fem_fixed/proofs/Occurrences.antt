@@ -1,4 +1,4 @@
--- Laws on lists of any elements: one more element, and elements numbered as they come.
+-- Laws on lists of any elements: one more element, and elements numbered as they come. For the crates above.
 use Rattle.std.proofs.Common.{◌≡◌, ◌∙◌, ◌⊎◌, sym, ap, refl, ℕ, ◌+◌, ◌≤◌, List, [], ◌∷◌, ◌++◌, length, Bool, true, false, arith, append_assoc, append-nil, subst, inl, inr, length-append, nat_eq}
 use Rattle.std.specs.Prelude.{Some, None, ◌||◌, ◌&&◌, ◌==◌, if◌then◌else◌}
 use Rattle.std.specs.Ordering.{is_eq}
@@ -17,6 +17,7 @@ numbers_equal = record { itself = λ x. (grind arith); equal = λ x y h. (grind 
 pub one_or_apart : {X : Type 0} {same : X → X → Bool} (laws : IsEquality same) (x y : X) → (x ≡ y) ⊎ (same x y ≡ false)
 one_or_apart {same = same} laws x y = elim (cases_Bool (same x y)) [ inl e ↦ inl (laws.equal x y e) | inr e ↦ inr e ]
 
+-- the test is true of one element
 pub same_by : {X : Type 0} {same : X → X → Bool} (laws : IsEquality same) (x y : X) → x ≡ y → same x y ≡ true
 same_by {same = same} laws x y e = ap (λ z. same x z) (sym e) ∙ laws.itself x
 
@@ -30,6 +31,7 @@ same_turned {same = same} laws x y = elim (cases_Bool (same x y)) [
   ]
 ]
 
+-- an element is in one of two lists
 pub contains-append : {X : Type 0} (same : X → X → Bool) (xs ys : List X) (x : X) → contains same (xs ++ ys) x ≡ (contains same xs x || contains same ys x)
 contains-append same xs ys x = list_any-append (λ y. same y x) xs ys
 
@@ -41,13 +43,15 @@ or_true_right : (a : Bool) → (a || true) ≡ true
 or_true_right true = refl
 or_true_right false = refl
 
--- an element is in a list with one more behind it where it was in the list, or is the new one
+-- an element of a list is in a longer one
 pub contains_more : {X : Type 0} (same : X → X → Bool) (seen more : List X) (x : X) → contains same seen x ≡ true → contains same (seen ++ more) x ≡ true
 contains_more same seen more x h = contains-append same seen more x ∙ ap (λ b. b || contains same more x) h
 
+-- the last element is in the list
 pub last_here : {X : Type 0} {same : X → X → Bool} (laws : IsEquality same) (xs : List X) (x y : X) → x ≡ y → contains same (xs ++ x ∷ []) y ≡ true
 last_here {same = same} laws xs x y e = contains-append same xs (x ∷ []) y ∙ ap (λ b. contains same xs y || (b || false)) (same_by laws x y e) ∙ or_true_right (contains same xs y)
 
+-- another one is where it was in the list before
 pub last_apart : {X : Type 0} (same : X → X → Bool) (xs : List X) (x y : X) → same x y ≡ false → contains same (xs ++ x ∷ []) y ≡ contains same xs y
 last_apart same xs x y e = contains-append same xs (x ∷ []) y ∙ ap (λ b. contains same xs y || (b || false)) e ∙ or_false_right (contains same xs y)
 
@@ -127,6 +131,7 @@ rank_next {same = same} laws seen x h = ap (different same) (none_first (λ y. s
 among_by : {X : Type 0} (same : X → X → Bool) (xs : List X) (x : X) (b : Bool) → contains same xs x ≡ b → rank_among same xs x ≡ (if b then Some (rank_of same xs x) else None)
 among_by same xs x b e = ap (λ c. if c then Some (rank_of same xs x) else None) e
 
+-- whether an element has a number
 pub among_some : {X : Type 0} (same : X → X → Bool) (xs : List X) (x : X) → contains same xs x ≡ true → rank_among same xs x ≡ Some (rank_of same xs x)
 among_some same xs x e = among_by same xs x true e
 

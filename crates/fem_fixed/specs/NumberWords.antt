@@ -1,5 +1,5 @@
 -- The grammar of decimal numbers in a text: how a word is put together.
-use Rattle.std.specs.Prelude.{◌≡◌, ◌⊎◌, ℕ, List, [], ◌∷◌, ◌++◌, Bool, true, false, IsTrue}
+use Rattle.std.specs.Prelude.{◌≡◌, ◌⊎◌, ℕ, List, [], ◌∷◌, ◌++◌, Bool, true, false}
 use Rattle.fem_fixed.specs.Ticks.{NumberParts, is_digits, is_exponent_mark}
 
 -- a sign: none, `+` or `-`

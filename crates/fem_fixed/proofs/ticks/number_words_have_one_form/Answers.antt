@@ -1,5 +1,5 @@
-use Rattle.std.proofs.Common.{◌≡◌, sym, ◌∙◌, ap, subst, true}
-use Rattle.fem_fixed.specs.Ticks.{NumberParts, is_number}
+use Rattle.std.proofs.Common.{◌∙◌, ap, subst}
+use Rattle.fem_fixed.specs.Ticks.{is_number}
 use Rattle.fem_fixed.specs.NumberWords.{IsNumberWord}
 use Rattle.fem_fixed.proofs.Grammar.{parts_found, form_found, word_found}
 use Rattle.fem_fixed.proofs.ticks.number_words_have_one_form.Goals as goal
