@@ -2,7 +2,7 @@
 use Rattle.std.proofs.Common.{◌≡◌, ◌∙◌, sym, ap, refl, ℕ, zero, suc, ◌+◌, ◌-◌, ◌*◌, ◌^◌, ◌<◌, ◌≤◌, ℤ, pos, ◌<ℤ◌, ◌+ℤ◌, arith, Bool, true, false, inl, inr, lit<, subst, to_z}
 use Rattle.std.specs.Prelude.{unsigned_abs, nat_lt, ◌==◌, ◌||◌, Some, None, if◌then◌else◌, slice_index_or, nat_le, ◌%◌}
 use Rattle.std.specs.List.{position_or_len, range_with_len}
-use Rattle.std.specs.Int.{w128}
+use Rattle.std.specs.Int.{w64, w128}
 use Rattle.std.specs.declared.option.Option.{Option}
 use Rattle.std.specs.Int.Count.{count_leading_zeros}
 use Rattle.std.proofs.lemmas.Nat.{leading_length, pow_pos, pow-add}
@@ -153,6 +153,17 @@ pub unit_is : (p : ℕ) → p ≤ 80 → to_z w128 (1 * 2 ^ p % 3402823669209384
 unit_is p h =
     let small : 2 ^ p ≤ 2 ^ 80 = small_power p h in
     omega (arith, ints, small)
+
+-- and in 64 bits
+pub short_unit_is : (p : ℕ) → p < 62 → to_z w64 (1 * 2 ^ p % 18446744073709551616) ≡ pos (2 ^ p)
+short_unit_is p h =
+    let small : 2 ^ p ≤ 2 ^ 61 = powers_rise p 61 (omega arith) in
+    omega (arith, ints, small)
+
+pub short_unit_size : (p : ℕ) → p < 62 → unsigned_abs (pos (2 ^ p)) < 2 ^ 62
+short_unit_size p h =
+    let small : 2 ^ p ≤ 2 ^ 61 = powers_rise p 61 (omega arith) in
+    omega (arith, small)
 
 pub unit_positive : (p : ℕ) → pos 0 <ℤ pos (2 ^ p)
 unit_positive p = let some : 0 < 2 ^ p = pow_pos p in grind (arith, ints)

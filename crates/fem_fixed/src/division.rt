@@ -53,6 +53,20 @@ pub(crate) fn float_guess(n: i128, d: u64) -> i64
     whole_of(float_of(n) / nearest_u64_to_f64(d))
 }
 
+/// A number near n / 2^power: nothing is promised of it. Half the divisor less one, and one more where the
+/// quotient rounded down is odd, bring a tie to the even number. The low 63 binary digits of the quotient
+/// are taken, with a shift so that a negative one has them too.
+#[inline(always)]
+pub(crate) fn shift_guess(n: i128, power: u32) -> i64
+    requires { power < 62 }
+{
+    let half = (1_i128 << power) >> 1;
+    let floor = n >> power;
+    let raised = n.wrapping_add(half).wrapping_add(floor & 1).wrapping_sub(1);
+    let quotient = raised >> power;
+    (quotient.wrapping_add(1 << 62) & 0x7fff_ffff_ffff_ffff) as i64 - (1 << 62)
+}
+
 /// A float near n: nothing is promised of it.
 #[inline(always)]
 fn float_of(n: i128) -> f64
