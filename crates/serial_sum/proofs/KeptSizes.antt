@@ -1,5 +1,5 @@
 -- A kept sum is within the limit again.
-use Rattle.std.proofs.Common.{◌≡◌, ◌∙◌, sym, ap, refl, ℕ, zero, suc, ◌+◌, ◌-◌, ◌*◌, ◌^◌, ◌<◌, ◌≤◌, List, [], ◌∷◌, length, ℤ, pos, ◌<ℤ◌, ◌+ℤ◌, arith, Bool, true, false, cond, inl, inr, lit<, subst}
+use Rattle.std.proofs.Common.{◌≡◌, ◌∙◌, sym, ap, refl, ℕ, zero, suc, ◌+◌, ◌-◌, ◌*◌, ◌^◌, ◌<◌, ◌≤◌, List, [], ◌∷◌, length, ℤ, pos, ◌<ℤ◌, ◌+ℤ◌, arith, Bool, true, false, inl, inr, subst}
 use Rattle.std.specs.Prelude.{unsigned_abs, nat_lt, nat_le, ◌==◌, ◌||◌, Some, None, if◌then◌else◌, slice_index_or}
 use Rattle.std.specs.List.{position_or_len, range_with_len}
 use Rattle.std.specs.declared.option.Option.{Option}

@@ -5,3 +5,5 @@ pub mod EntryLaws
 pub mod PartLaws
 pub mod StateLaws
 pub mod RowStepLaws
+pub mod RoundLaws
+pub mod FirstMarks

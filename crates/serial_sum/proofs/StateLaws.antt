@@ -4,7 +4,7 @@ use Rattle.std.specs.Prelude.{Some, None, Err, slice_index_or, slice_set, unwrap
 use Rattle.std.specs.declared.option.Option.{Option}
 use Rattle.std.specs.List.{range_with_len, list_any, flat_map}
 use Rattle.std.proofs.lemmas.Bool.{cases_lt, cases_Bool}
-use Rattle.std.proofs.lemmas.List.{take_more, map-append, ext_get_or, get_or-map, get_or_past}
+use Rattle.std.proofs.lemmas.List.{ext_get_or, get_or-map, get_or_past}
 use Rattle.std.proofs.lemmas.List.Concat.{flat_map-cons}
 use Rattle.std.proofs.lemmas.List.FromFn.{get_or-map-range_with_len, length-map-range_with_len}
 use Rattle.std.proofs.lemmas.List.Sums.{fold_more, fold-append}
@@ -41,7 +41,7 @@ same_numbers : (m n : ℕ) → (m == n) ≡ true → m ≡ n
 same_numbers m n h = grind arith
 
 -- adding leaves the marks
-mark_kept : (columns : List ℕ) (row : Row) (t : Target) (v : ℤ) → (with_entry columns row t v).mark ≡ row.mark
+pub mark_kept : (columns : List ℕ) (row : Row) (t : Target) (v : ℤ) → (with_entry columns row t v).mark ≡ row.mark
 mark_kept columns row (Column j) v = refl
 mark_kept columns row RightSide v = refl
 
@@ -60,7 +60,7 @@ unmarked_one digits pattern rows c h i = elim (cases_lt c.row (length rows)) [
     set_past (x ∷ xs) zero r h = absurd (omega (arith, h))
     set_past (x ∷ xs) (suc i) r h = ap (λ ys. x ∷ ys) (set_past xs i r (omega (arith, h)))
 
-unmarked_all : (digits : ℕ) (pattern : List (List ℕ)) (list : List Contribution) (run : Run) → AreUnmarked run.rows → AreUnmarked (fold (one digits pattern) run list).rows
+pub unmarked_all : (digits : ℕ) (pattern : List (List ℕ)) (list : List Contribution) (run : Run) → AreUnmarked run.rows → AreUnmarked (fold (one digits pattern) run list).rows
 unmarked_all digits pattern [] run h = h
 unmarked_all digits pattern (c ∷ list) run h = unmarked_all digits pattern list (one digits pattern run c) (unmarked_one digits pattern run.rows c h)
 
@@ -215,13 +215,13 @@ step_fits digits pattern rows None p given fits = by_fault p.fault
     by_fault None = run_fits digits pattern p.list (record { rows = rows; least = None }) given fits
 
 -- what the contributions of a part do to one row
-length_kept : (digits : ℕ) (pattern : List (List ℕ)) (rows : List Row) (c : Contribution) → length (with_row digits pattern rows c) ≡ length rows
+pub length_kept : (digits : ℕ) (pattern : List (List ℕ)) (rows : List Row) (c : Contribution) → length (with_row digits pattern rows c) ≡ length rows
 length_kept digits pattern rows c = counted rows c.row (added_row digits (columns_at pattern c.row) (row_at rows c.row) c.target c.value)
   where
     counted : (rows : List Row) (i : ℕ) (r : Row) → length (slice_set rows i r) ≡ length rows
     counted rows i r = grind (arith, common_steps)
 
-row_after_one : (digits : ℕ) (pattern : List (List ℕ)) (run : Run) (c : Contribution) (i : ℕ) (all : Bool) → i < length run.rows →
+pub row_after_one : (digits : ℕ) (pattern : List (List ℕ)) (run : Run) (c : Contribution) (i : ℕ) (all : Bool) → i < length run.rows →
     row_at (one digits pattern run c).rows i ≡ (row_own digits (columns_at pattern i) i (record { row = row_at run.rows i; all = all }) c).row
 row_after_one digits pattern run c i all h = elim (cases_Bool (c.row == i)) [
   | inl e ↦ (let same : c.row ≡ i = same_numbers c.row i e in
@@ -233,14 +233,14 @@ row_after_one digits pattern run c i all h = elim (cases_Bool (c.row == i)) [
       ∙ sym (ap (λ b. (cond b (row_one digits (columns_at pattern i) (record { row = row_at run.rows i; all = all }) c) (record { row = row_at run.rows i; all = all })).row) e)
 ]
 
-row_after_run : (digits : ℕ) (pattern : List (List ℕ)) (list : List Contribution) (run : Run) (i : ℕ) (row : RowRun) → i < length run.rows → row.row ≡ row_at run.rows i →
+pub row_after_run : (digits : ℕ) (pattern : List (List ℕ)) (list : List Contribution) (run : Run) (i : ℕ) (row : RowRun) → i < length run.rows → row.row ≡ row_at run.rows i →
     row_at (fold (one digits pattern) run list).rows i ≡ (fold (row_own digits (columns_at pattern i) i) row list).row
 row_after_run digits pattern [] run i row h e = sym e
 row_after_run digits pattern (c ∷ list) run i row h e =
     row_after_run digits pattern list (one digits pattern run c) i (row_own digits (columns_at pattern i) i row c) (rw (length_kept digits pattern run.rows c) h)
     (ap (λ r. (row_own digits (columns_at pattern i) i (record { row = r; all = row.all }) c).row) e ∙ sym (row_after_one digits pattern run c i row.all h))
 
-run_length : (digits : ℕ) (pattern : List (List ℕ)) (list : List Contribution) (run : Run) → length (fold (one digits pattern) run list).rows ≡ length run.rows
+pub run_length : (digits : ℕ) (pattern : List (List ℕ)) (list : List Contribution) (run : Run) → length (fold (one digits pattern) run list).rows ≡ length run.rows
 run_length digits pattern [] run = refl
 run_length digits pattern (c ∷ list) run = run_length digits pattern list (one digits pattern run c) ∙ length_kept digits pattern run.rows c
 

@@ -2,3 +2,5 @@ pub mod Columns
 pub mod Rows
 pub mod SerialSum
 pub mod Steps
+pub mod Marks
+pub mod FirstMark

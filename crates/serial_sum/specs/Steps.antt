@@ -1,5 +1,5 @@
 -- The sum as steps on a state, part after part.
-use Rattle.std.specs.Prelude.{◌≡◌, ℕ, ◌≤◌, List, map, fold, All, Bool, true, ◌==◌, ◌&&◌, ◌^◌, if◌then◌else◌, unsigned_abs, pos, Some, None, Ok, Err}
+use Rattle.std.specs.Prelude.{◌≡◌, ℕ, ◌≤◌, List, map, fold, All, Bool, true, ◌==◌, ◌&&◌, ◌^◌, if◌then◌else◌, unsigned_abs, Some, None, Ok, Err}
 use Rattle.std.specs.declared.option.Option.{Option}
 use Rattle.std.specs.declared.result.Result.{Result}
 use Rattle.serial_sum.specs.Rows.{Run, one, IsFor, added_row, is_added, has_target}

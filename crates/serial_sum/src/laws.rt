@@ -1,8 +1,9 @@
 ghost use Rattle.std.specs.Prelude.{◌==◌, ◌≡◌, ◌<◌, ◌++◌, ◌∷◌, [], ℕ, List, All, None, true, false, fold, length, ◌↔◌};
 ghost use Rattle.std.specs.declared.result.Result.{Result};
 ghost use Rattle.serial_sum.specs.Columns.{AreRising, columns_at};
-ghost use Rattle.serial_sum.specs.Rows.{row_at};
-ghost use Rattle.serial_sum.specs.Steps.{RowRun, step_of, zero_state, answer_of, IsPartFor, row_step};
+ghost use Rattle.serial_sum.specs.Rows.{row_at, AreUnmarked, FitsRow, FitsRows};
+ghost use Rattle.serial_sum.specs.Marks.{row_after, RoundItem, AreItems, IsRound, RoundIs};
+ghost use Rattle.serial_sum.specs.Steps.{RowRun, step_of, zero_state, answer_of, IsPartFor, IsForRow, row_step};
 ghost use Rattle.serial_sum.specs.SerialSum.{SumIs, FailsAtRow};
 ghost use Rattle.std.specs.List.{list_any, flat_map};
 ghost use Rattle.sparsity.specs.Rows.{zero_row};
@@ -61,4 +62,23 @@ pub fn other_rows_stay()
 pub fn chunks_are_parts()
     ensures { (digits : ℕ) (pattern : List (List ℕ)) (chunks : List (List CellPart)) (state : MatrixState) →
         fold (λ (s : MatrixState) (chunk : List CellPart). fold (step_of digits pattern) s chunk) state chunks ≡ fold (step_of digits pattern) state (flat_map (λ (chunk : List CellPart). chunk) chunks) }
+{}
+
+/// A round does what the steps do: where it leaves no mark, the rows are those of the steps over its parts one after
+/// another, and else the first mark tells how the steps fail.
+pub fn rounds_do_the_steps()
+    ensures { (digits : ℕ) (pattern : List (List ℕ)) (items : List RoundItem) (old new : List Row) → length old ≡ length pattern → AreUnmarked old →
+        AreItems pattern items → IsRound digits pattern items old new → RoundIs digits pattern items (record { rows = old; failure = None }) new }
+{}
+
+/// Rows that fit still fit after a step.
+pub fn rows_fit_after_a_step()
+    ensures { (digits : ℕ) (pattern : List (List ℕ)) (state : MatrixState) (part : CellPart) → IsPartFor pattern part →
+        FitsRows pattern state.rows → FitsRows pattern (step_of digits pattern state part).rows }
+{}
+
+/// A row that fits still fits after a part.
+pub fn a_row_fits_after_a_part()
+    ensures { (digits : ℕ) (columns : List ℕ) (i : ℕ) (row : Row) (part : CellPart) → All (IsForRow columns i) part.list →
+        FitsRow columns row → FitsRow columns (row_after digits columns i row part) }
 {}

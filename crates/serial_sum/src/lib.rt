@@ -10,13 +10,16 @@
 mod adding;
 mod columns;
 mod laws;
+mod marks;
 mod part;
 mod sum;
 
 pub use adding::{add, add_at, add_contribution, add_list, add_own};
 pub use laws::{
-    a_step_is_one_part_more, chunks_are_parts, other_rows_stay, rows_step_alone,
-    rows_tell_failures, steps_give_the_sum, sum_exists, sum_is_unique,
+    a_row_fits_after_a_part, a_step_is_one_part_more, chunks_are_parts, other_rows_stay,
+    rounds_do_the_steps, rows_fit_after_a_step, rows_step_alone, rows_tell_failures,
+    steps_give_the_sum, sum_exists, sum_is_unique,
 };
+pub use marks::{first_failure, mark_row};
 pub use part::{CellPart, Contribution, ContributionList, Target};
 pub use sum::{AssembleFault, Failure, MatrixState, add_part, sum_parts};

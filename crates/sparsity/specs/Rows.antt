@@ -1,11 +1,15 @@
 -- Rows of values over the pattern.
-use Rattle.std.specs.Prelude.{◌≡◌, ℕ, pos, List, length, map, replicate, None}
+use Rattle.std.specs.Prelude.{◌≡◌, ℕ, pos, List, [], length, map, replicate, None}
 use Rattle.std.specs.List.{range_with_len}
 use Rattle.sparsity.specs.declared.rows.Row.{Row}
 
 -- a row over these columns: a zero each, and no mark
 abbrev pub zero_row : List ℕ → Row
 zero_row columns = record { values = replicate (length columns) (pos 0); rhs = pos 0; mark = None }
+
+-- a row without values
+abbrev pub no_values : Row
+no_values = record { values = []; rhs = pos 0; mark = None }
 
 -- the rows of a list of rows with their numbers
 unfoldable pub rows_in : List (ℕ × Row) → List Row

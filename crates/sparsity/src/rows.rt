@@ -1,7 +1,7 @@
 ghost use Rattle.std.specs.Prelude.{◌≡◌, ◌<◌, ◌^◌, map, length, slice_index_or, All, IfOk};
 ghost use Rattle.std.specs.List.Sorted.{IsStrictlyIncreasing};
 ghost use Rattle.std.specs.Borrow.{Lends, sem};
-ghost use Rattle.sparsity.specs.Rows.{zero_row, rows_in};
+ghost use Rattle.sparsity.specs.Rows.{zero_row, no_values, rows_in};
 
 use crate::pattern::Pattern;
 use crate::values::RowValues;
@@ -98,6 +98,29 @@ impl Rows {
     {
         let numbered = &mut self.rows[i as usize];
         &mut numbered.1
+    }
+
+    /// Takes a row out, and leaves one without values in its place. Nothing is copied, and no memory is taken.
+    pub fn take(&mut self, alloc: Global, i: u32) -> Row
+        requires { i < length self.old }
+        ensures row { result ≡ slice_index_or self.old i result }
+        ensures rest { self.new ≡ slice_set self.old i no_values }
+    {
+        let values = RowValues::from(Vec::new(alloc));
+        let empty = Row {
+            values,
+            rhs: 0,
+            mark: None,
+        };
+        std::mem::replace(self.get_mut(i), empty)
+    }
+
+    /// Puts a row in place of another.
+    pub fn put(&mut self, i: u32, row: Row)
+        requires { i < length self.old }
+        ensures { self.new ≡ slice_set self.old i row }
+    {
+        *self.get_mut(i) = row;
     }
 
     /// The rows with their numbers, rising. Nothing is copied, and no memory is taken.

@@ -14,7 +14,7 @@ fn made<R: Abort + Threads + Sync + AllocGlobal>(
     let mut couplings = Couplings::new(rt.alloc(), size);
     for list in lists {
         let list = *list;
-        assert!(rt; are_below(list, size));
+        assert!(rt; are_below(list, couplings.size()));
         couplings.add(list)?;
     }
     Ok(Pattern::build(rt, rt.alloc(), &couplings))
@@ -46,19 +46,23 @@ fn lists_make_rows(rt: HostRuntime) -> Result<(), Fail> {
 fn rows_go_out_and_back(rt: HostRuntime) -> Result<(), Fail> {
     let pattern = made(&rt, 3, &[&[0, 2]])?.ok().expect(&rt, "a pattern");
     let mut rows = Rows::zero(rt.alloc(), &pattern)?;
-    rows.get_mut(2).values.set(1, 7);
-    rows.get_mut(2).mark = Some(Mark {
+    assert_eq!(rt; rows.size(), 3);
+    let row = rows.get_mut(2);
+    assert_eq!(rt; row.values.len(), 2);
+    row.values.set(1, 7);
+    row.mark = Some(Mark {
         cell: 4,
         kind: MarkKind::Sum,
     });
-    let numbered = rows.into_numbered();
-    assert_eq!(rt; numbered.len(), 3);
-    let rows = Rows::from_numbered(numbered);
+    let taken = rows.take(rt.alloc(), 2);
+    assert_eq!(rt; taken.values.as_slice(), [0i128, 7].as_slice());
+    assert_eq!(rt; taken.mark.map(|mark| mark.cell), Some(4));
+    assert_eq!(rt; rows.get(2).values.len(), 0);
+    rows.put(2, taken);
+    let rows = Rows::from_numbered(rows.into_numbered());
     assert_eq!(rt; rows.size(), 3);
     assert_eq!(rt; rows.get(0).values.as_slice(), [0i128, 0].as_slice());
-    assert_eq!(rt; rows.get(2).values.get(1), 7);
-    assert_eq!(rt; rows.get(2).values.len(), 2);
-    assert_eq!(rt; rows.get(2).mark.map(|mark| mark.cell), Some(4));
+    assert_eq!(rt; rows.get(2).values.as_slice(), [0i128, 7].as_slice());
     Ok(())
 }
 
@@ -69,6 +73,8 @@ fn a_row_is_made_of_values(rt: HostRuntime) -> Result<(), Fail> {
         rhs: 1,
         mark: None,
     };
+    assert_eq!(rt; row.values.len(), 2);
+    assert_eq!(rt; row.values.get(1), 6);
     row.values.set(0, 8);
     let values = Vec::<i128>::from(row.values);
     assert_eq!(rt; values.as_slice(), [8i128, 6].as_slice());
@@ -79,9 +85,8 @@ fn a_row_is_made_of_values(rt: HostRuntime) -> Result<(), Fail> {
 #[test]
 fn the_limit_is_between(rt: HostRuntime) -> Result<(), Fail> {
     let list: Vec<u32> = (0..5793u32).collect(rt.alloc())?;
-    let pattern = made(&rt, 5792, &[&list[..5792]])?
-        .ok()
-        .expect(&rt, "a pattern");
+    let shorter: Vec<u32> = (0..5792u32).collect(rt.alloc())?;
+    let pattern = made(&rt, 5792, &[&shorter])?.ok().expect(&rt, "a pattern");
     assert_eq!(rt; pattern.entries(), 33_547_264);
     let fault = made(&rt, 5793, &[&list])?.err();
     assert_eq!(rt; fault, Some(PatternFault::Limit));

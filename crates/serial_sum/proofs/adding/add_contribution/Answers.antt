@@ -1,11 +1,11 @@
-use Rattle.std.proofs.Common.{◌≡◌, ◌∙◌, ◌<◌, ◌^◌, sym, ap, subst, length, List, ℕ, FitsSigned, lit<, arith}
-use Rattle.std.specs.Prelude.{slice_index_or, slice_set}
+use Rattle.std.proofs.Common.{◌∙◌, ◌<◌, ◌^◌, sym, ap, subst, length, List, ℕ, FitsSigned, lit<, arith}
+use Rattle.std.specs.Prelude.{slice_set}
 use Rattle.std.specs.Int.{w128}
 use Rattle.std.proofs.lemmas.Int.{to_z-of_z}
 use Rattle.fem_fixed.proofs.Sizes.{size_fits}
 use Rattle.sparsity.specs.declared.rows.Row.{Row}
 use Rattle.serial_sum.specs.Columns.{columns_at}
-use Rattle.serial_sum.specs.Rows.{FitsRow, row_at, added_row, is_added}
+use Rattle.serial_sum.specs.Rows.{FitsRow, added_row, is_added}
 use Rattle.serial_sum.proofs.RowLaws.{rows_row, all_rising}
 use Rattle.serial_sum.proofs.adding.add_contribution.Goals as goal
 

@@ -1,4 +1,4 @@
-use Rattle.std.proofs.Common.{sym, map, List, subst, pos}
+use Rattle.std.proofs.Common.{sym, List, subst, pos}
 use Rattle.std.specs.Prelude.{slice_index_or}
 use Rattle.serial_sum.specs.declared.part.Target.TheVariants.{Column}
 use Rattle.serial_sum.specs.declared.part.Contribution.{Contribution}

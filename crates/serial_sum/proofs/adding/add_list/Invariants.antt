@@ -1,4 +1,4 @@
-use Rattle.std.proofs.Common.{◌≡◌, map, take}
+use Rattle.std.proofs.Common.{◌≡◌, take}
 use Rattle.std.specs.Prelude.{fold, None}
 use Rattle.serial_sum.specs.Rows.{FitsRows, Run, one}
 use Rattle.serial_sum.proofs.adding.add_list.Given as goal

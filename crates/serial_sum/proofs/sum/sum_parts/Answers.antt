@@ -1,4 +1,4 @@
-use Rattle.std.proofs.Common.{◌≡◌, sym, ap, arith, map, length, subst, List}
+use Rattle.std.proofs.Common.{◌≡◌, sym, ap, arith, length, subst, List}
 use Rattle.std.specs.Prelude.{None}
 use Rattle.std.specs.declared.option.Option.{Option}
 use Rattle.serial_sum.specs.declared.sum.Failure.{Failure}

@@ -1,4 +1,4 @@
-use Rattle.std.proofs.Common.{◌≡◌, map, take}
+use Rattle.std.proofs.Common.{◌≡◌, take}
 use Rattle.std.specs.Prelude.{fold}
 use Rattle.serial_sum.specs.Rows.{FitsRows}
 use Rattle.serial_sum.specs.Steps.{step_of, zero_state}
