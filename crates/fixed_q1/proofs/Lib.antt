@@ -8,3 +8,4 @@ pub mod Edges
 pub mod Jumps
 pub mod FaceBounds
 pub mod Turned
+pub mod Exchanged

@@ -1,8 +1,8 @@
-use Rattle.std.proofs.Common.{◌≡◌, ◌∙◌, ap, List, [], ◌∷◌, ◌++◌, ℤ, FitsSigned}
+use Rattle.std.proofs.Common.{◌≡◌, ◌∙◌, ap, List, ◌++◌, ℤ, FitsSigned}
 use Rattle.std.specs.Int.{w128}
 use Rattle.std.proofs.lemmas.Int.{to_z-of_z}
 use Rattle.fixed_q1.specs.Evaluation.{four_from, jump_block}
-use Rattle.fixed_q1.proofs.Symmetry.{blocks_joined, numbers, half, columns, rows_are}
+use Rattle.fixed_q1.proofs.Symmetry.{blocks_joined, numbers, half, rows_are}
 use Rattle.fixed_q1.proofs.penalty.entries_of.Goals as goal
 
 pub returns : goal.returns
