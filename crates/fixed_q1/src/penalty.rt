@@ -6,7 +6,7 @@ ghost use Rattle.fixed_q1.specs.Evaluation.{AreSmallFactors, number_at, four_fro
 use crate::geometry::ONE_POWER;
 use fem_fixed::rdiv_by_power;
 
-/// What the shape functions of one cell and those of one cell, or of the other one, have together.
+/// Four rows of four entries: rows of one cell, columns of the same or of the other one.
 type Block = [[i128; 4]; 4];
 
 /// The matrix of a part of a face by rows, from the jumps. It is symmetric, so that 36 entries give all 64.
