@@ -23,9 +23,9 @@ fn words_of(alloc: Global, words: &[&str]) -> Result<Vec<String>, Fail> {
     Ok(list)
 }
 
-fn store_with(alloc: Global, text: &str, fail_reads: Vec<u32>) -> Result<MemoryStore, Fail> {
+fn store_with(alloc: Global, text: &str, fail_reads: Vec<u64>) -> Result<MemoryStore, Fail> {
     let mut store = MemoryStore::new(alloc, fail_reads, Vec::new(alloc));
-    store.hold(alloc, "mesh", text.as_bytes())?;
+    store.hold("mesh", text.as_bytes())?;
     Ok(store)
 }
 
