@@ -34,11 +34,7 @@ pub fn unwrap_all<T>(mut from: Vec<Option<T>>, mut to: Vec<T>) -> Vec<T>
 }
 
 /// Takes all objects out of their places.
-pub fn take_all<T>(
-    mut closed: Closed<Option<T>, Global>,
-    objects: usize,
-    mut to: Vec<T>,
-) -> Vec<T>
+pub fn take_all<T>(mut closed: Closed<Option<T>, Global>, objects: usize, mut to: Vec<T>) -> Vec<T>
     requires closed { (slots_len closed.slots ≡ objects) × IsFull closed.slots × AreHome objects (slots_items closed.slots) }
     requires room { (vec_len to ≡ 0) × (objects ≤ vec_capacity to) }
     ensures { vec_len result ≡ objects }

@@ -138,12 +138,7 @@ fn lay_out<T>(alloc: Global, mut objects: Vec<T>, seats: u32) -> Result<Made<T>,
 }
 
 // Splits the passes off, in the order of their numbers.
-fn deal<T>(
-    places: &Places<T>,
-    seats: u32,
-    mut seat: Holder<T>,
-    passes: &mut Vec<PoolPass<T>>,
-)
+fn deal<T>(places: &Places<T>, seats: u32, mut seat: Holder<T>, passes: &mut Vec<PoolPass<T>>)
     requires seat { (seat.table_id ≡ places.now.table) × (seat.me ≡ (dealer seats, [])) }
     requires room { (passes.old.items ≡ []) × (seats ≤ vec_capacity passes.old) }
     ensures { passes.new.items ≡ fresh_passes places.now.table seats }
