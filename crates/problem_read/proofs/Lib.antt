@@ -1,0 +1,7 @@
+mod FirstWord
+mod Sums
+mod ItemLists
+mod Entries
+mod SoFar
+mod TieLines
+mod TextFaults
