@@ -2,6 +2,7 @@ mod FirstWord
 mod Sums
 mod ItemLists
 mod Entries
+mod Limits
 mod SoFar
 mod TieLines
 mod TextFaults

@@ -19,6 +19,8 @@ use Rattle.problem_read.specs.Entries.{Entry, ProblemParts, parts_of, diffusion,
 use Rattle.problem_read.specs.Shapes.{keyword_at}
 use Rattle.problem_read.specs.EntryLine.{numbers_of, repeats, has_room, checked, entry_behind, entry_line}
 use Rattle.problem_read.specs.Problem.{ProblemText, NoMemoryOr}
+use Rattle.problem_read.specs.Limits.{AreWithinLimits}
+use Rattle.problem_read.proofs.Limits.{no_lines_keep, line_keeps, adds_keep}
 use Rattle.problem_read.specs.Steps.{with_entry, AddsEntry, IsLineFault, HoldsSoFar}
 
 isnt : (b : Bool) → not b ≡ true → b ≡ false
@@ -97,7 +99,7 @@ by_entry entries (constraint tie) new =
 pub holds_none : (lines rest : Lines) (parts : ProblemParts) → rest ≡ lines → parts ≡ parts_of [] → HoldsSoFar lines parts rest
 holds_none lines rest parts new empty =
     let P : Lines → Type 0 = λ l. HoldsSoFar lines parts l in
-    subst P (sym new) (record { entries = []; reads = so_far_none entry_line lines; parts_are = empty })
+    subst P (sym new) (record { entries = []; reads = so_far_none entry_line lines; parts_are = empty; limits = subst AreWithinLimits (sym empty) no_lines_keep })
 
 given_behind : (lines rest : Lines) (parts : ProblemParts) (words : List (List ℕ)) (has : HoldsSoFar lines parts rest) → entry_line has.entries words ≡ entry_behind parts words
 given_behind lines rest parts words has = ap (λ p. entry_behind p words) (sym has.parts_are)
@@ -111,6 +113,8 @@ holds_more lines rest now parts parts_now line has takes adds =
       entries = has.entries ++ adds.entry ∷ [];
       reads = so_far_more entry_line lines rest now has.entries (has.entries ++ adds.entry ∷ []) adds.entry line has.reads takes given refl;
       parts_are = adds.added ∙ ap (λ p. with_entry p adds.entry) has.parts_are ∙ by_entry has.entries adds.entry new ∙ join has.entries adds.entry;
+      limits = (let (keeps, room) = line_keeps parts (words_of line.bytes.now) adds.entry adds.given in
+          subst AreWithinLimits (sym adds.added) (adds_keep parts adds.entry has.limits keeps room));
     }
 
 pub holds_fails : (lines rest now : Lines) (parts : ProblemParts) (line : TextLine) (fault : TextFault ProblemKind) → HoldsSoFar lines parts rest → TakesFirst rest line now →

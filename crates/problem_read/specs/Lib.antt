@@ -4,6 +4,7 @@ pub mod Shapes
 pub mod EntryLine
 pub mod Problem
 pub mod LookUps
+pub mod Limits
 pub mod Steps
 pub mod Ties
 pub mod Held

@@ -12,7 +12,7 @@ use Rattle.fem_text.specs.Words.{◌>>=◌, or_fault, unless}
 use Rattle.problem_read.specs.Sums.{all_of}
 use Rattle.problem_read.specs.Entries.{Tie, Entry, ProblemParts, parts_of, diffusion, source, robin, dirichlet, penalty, refine, constraint}
 use Rattle.problem_read.specs.EntryLine.{value_at, is_listed, entry_behind, entry_line}
-use Rattle.problem_read.specs.Problem.{NoMemoryOr}
+use Rattle.problem_read.specs.Limits.{AreWithinLimits}
 
 -- what an entry adds
 abbrev pub with_entry : ProblemParts → Entry → ProblemParts
@@ -40,6 +40,7 @@ pub record HoldsSoFar (lines : Lines) (parts : ProblemParts) (rest : Lines) : Ty
   pub entries : List Entry
   pub reads : ReadSoFar entry_line lines entries rest
   pub parts_are : parts ≡ parts_of entries
+  pub limits : AreWithinLimits parts
 
 -- an id with its values, behind those that are listed
 abbrev pub setting_line : {V : Type 0} → Result (ℕ × V) ProblemKind → List (ℕ × V) → Result (ℕ × V) ProblemKind

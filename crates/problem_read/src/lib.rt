@@ -6,6 +6,7 @@ mod keyword;
 mod lists;
 mod problem;
 mod reader;
+mod tables;
 #[cfg(test)]
 mod tests;
 mod ties;

@@ -1,8 +1,10 @@
 ghost use Rattle.std.specs.Prelude.{◌≡◌, ◌≤◌, ◌⊎◌, ℕ, List, length, IfOk, IfErr};
 ghost use Rattle.problem_read.specs.declared.fault.ProblemKind.{ProblemKind};
 ghost use Rattle.problem_read.specs.Entries.{ProblemParts};
+ghost use Rattle.problem_read.specs.Limits.{AreWithinLimits};
 ghost use Rattle.problem_read.specs.Problem.{ProblemText, ProblemFaultAt, NoMemoryOr};
 
+use crate::tables::Tables;
 use crate::{Problem, ProblemFault};
 use fem_text::WordLines;
 use std::alloc::Global;
@@ -14,14 +16,15 @@ use std::alloc::Global;
 pub fn read_problem(alloc: Global, text: &[u8]) -> Result<Problem, ProblemFault>
     requires { length text.now ≤ 4294967294 }
     ensures ok { IfOk result (λ problem. ProblemText text.now problem) }
+    ensures limits { IfOk result AreWithinLimits }
     ensures err { IfErr result (λ fault. NoMemoryOr fault (ProblemFaultAt text.now fault.kind fault.line)) }
 {
     let mut lines = WordLines::new(text, Some(b'#'));
-    let mut problem = Problem::new(alloc);
+    let mut tables = Tables::new(alloc);
     while let Some(line) = lines.next_line() {
-        problem.add(alloc, &line)?;
+        tables.add(alloc, &line)?;
     }
-    Ok(problem)
+    Ok(Problem::new(tables))
 }
 
 /// Each text has one reading: a problem or a fault, never both, and no two of either.

@@ -1,7 +1,7 @@
 use Rattle.std.proofs.lemmas.Result.{err_from_is_err_and}
 use Rattle.fem_text.specs.Lines.{words_of}
 use Rattle.problem_read.proofs.Entries.{fails_first}
-use Rattle.problem_read.proofs.problem.Problem.add.Goals as goal
+use Rattle.problem_read.proofs.tables.Tables.add.Goals as goal
 
 pub returns-in_err-keyword-clause-err : goal.returns-in_err-keyword-clause-err
 returns-in_err-keyword-clause-err c =

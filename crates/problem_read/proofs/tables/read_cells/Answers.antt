@@ -4,7 +4,7 @@ use Rattle.fem_text.specs.Lines.{words_of}
 use Rattle.fem_text.specs.Words.{or_fault}
 use Rattle.problem_read.specs.declared.fault.ProblemKind.TheVariants.{Number}
 use Rattle.problem_read.proofs.Sums.{gives_more, gives_stop}
-use Rattle.problem_read.proofs.problem.read_cells.Goals as goal
+use Rattle.problem_read.proofs.tables.read_cells.Goals as goal
 
 pub returns-in_default-read_id-clause-err : goal.returns-in_default-read_id-clause-err
 returns-in_default-read_id-clause-err c =

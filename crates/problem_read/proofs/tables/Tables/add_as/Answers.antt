@@ -7,9 +7,9 @@ use Rattle.problem_read.specs.Problem.{NoMemoryOr}
 use Rattle.problem_read.specs.Ties.{tie_line}
 use Rattle.problem_read.specs.Held.{steps_in}
 use Rattle.problem_read.specs.Steps.{AddsEntry, IsLineFault, setting_line, penalty_line, step_line}
-use Rattle.problem_read.specs.contracts.problem.Problem.{the_view}
+use Rattle.problem_read.specs.contracts.tables.Tables.{the_view}
 use Rattle.problem_read.proofs.Entries.{on_ok, errs_as, of_diffusion, of_source, of_robin, of_dirichlet, of_penalty, of_step, of_tie, adds_diffusion, adds_source, adds_robin, adds_dirichlet, adds_penalty, adds_step, adds_tie}
-use Rattle.problem_read.proofs.problem.Problem.add_as.Goals as goal
+use Rattle.problem_read.proofs.tables.Tables.add_as.Goals as goal
 
 pub returns-in-Diffusion-clause-ok : goal.returns-in-Diffusion-clause-ok
 returns-in-Diffusion-clause-ok c =
