@@ -62,7 +62,8 @@ impl Pattern {
 
     /// How many rows there are.
     pub fn size(&self) -> u32
-        ensures { result ≡ length self.now }
+        ensures size { result ≡ length self.now }
+        ensures rising { All IsStrictlyIncreasing self.now }
     {
         self.rows.len() as u32
     }

@@ -1,4 +1,5 @@
-ghost use Rattle.std.specs.Prelude.{◌≡◌, ◌<◌, ◌^◌, map, length, slice_index_or, IfOk};
+ghost use Rattle.std.specs.Prelude.{◌≡◌, ◌<◌, ◌^◌, map, length, slice_index_or, All, IfOk};
+ghost use Rattle.std.specs.List.Sorted.{IsStrictlyIncreasing};
 ghost use Rattle.std.specs.Borrow.{Lends, sem};
 ghost use Rattle.sparsity.specs.Rows.{zero_row, rows_in};
 
@@ -64,7 +65,8 @@ impl Rows {
 
     /// A row of zeros with no mark for each row of the pattern.
     pub fn zero(alloc: Global, pattern: &Pattern) -> Result<Rows, NoMemory>
-        ensures { IfOk result (λ rows. rows ≡ map zero_row pattern.now) }
+        ensures zeros { IfOk result (λ rows. rows ≡ map zero_row pattern.now) }
+        ensures rising { All IsStrictlyIncreasing pattern.now }
     {
         let mut rows = Vec::new(alloc);
         for i in 0..pattern.size() {
