@@ -3,7 +3,6 @@ ghost use Rattle.assemble_core.specs.Run.{is_status};
 
 use crate::run_plain;
 use fem_text::{DiskStore, StdSink, Streams};
-use std::alloc::Global;
 use std::env;
 use std::io::ErrorKind;
 use std::rt::Runtime;
@@ -11,9 +10,10 @@ use std::thread::Threads;
 
 /// Runs the program on the words of its command line, over files and the standard streams, and answers the status.
 /// Where a word isn't text the status is 2, where memory runs out for the words it is 12, and nothing is printed.
-pub fn run_program<R: Runtime + Threads + Streams>(rt: &R, alloc: Global) -> u8
+pub fn run_program<R: Runtime + AllocGlobal + Threads + Streams>(rt: &R) -> u8
     ensures { is_status result ≡ true }
 {
+    let alloc = rt.alloc();
     let args = match env::args(rt) {
         Ok(args) => args,
         Err(error) if error.kind() == ErrorKind::InvalidData => return 2,

@@ -11,7 +11,7 @@ ghost use Rattle.assemble_core.specs.declared.refusal.Refusal.TheVariants.{Words
 use crate::assembly::{AssembleFault, assemble};
 use crate::matrix_text::matrix_text;
 use crate::refusal::{Refusal, put_line};
-use crate::words;
+use crate::{answer_is_unique, words};
 use fem_text::{Failed, Sink, Store, StoreFault, put_text};
 use quad_mesh::{MeshFault, QuadMesh};
 use std::alloc::Global;
@@ -224,6 +224,8 @@ pub fn run_plain<R: Runtime + Threads, S: Store, K: Sink>(
     ensures memory_no_put { (result ≡ 0 → ⊥) → (result ≡ 11 → ⊥) → K.counts out.new ≡ K.counts out.old }
     ensures memory_store { S.holds store.new ≡ S.holds store.old }
 {
+    // The law by which the status is that of the answer.
+    answer_is_unique();
     match work(alloc, words, store, out) {
         Ok(()) => 0,
         Err(Fault::Refused(refusal)) => {

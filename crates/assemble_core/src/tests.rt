@@ -1,6 +1,6 @@
 use super::*;
 use fem_text::{Counts, MemorySink, MemoryStore, Store, StoreFault};
-use std::alloc::Global;
+use std::alloc::{AllocError, Global};
 use std::process::Abort;
 use std::rt::Runtime;
 use std::test::Fail;
@@ -308,6 +308,16 @@ fn the_third_put_fails_behind_1024_bytes(rt: HostRuntime) -> Result<(), Fail> {
     Ok(())
 }
 
+fn blanks(alloc: Global) -> Result<Vec<u8>, AllocError> {
+    let piece = vec![in alloc; b' '; 65_536]?;
+    let mut text = Vec::with_capacity(alloc, 268_435_457)?;
+    for _ in 0..4096 {
+        text.extend_from_slice(&piece)?;
+    }
+    text.push(b' ')?;
+    Ok(text)
+}
+
 // A store that answers one blank more than a mesh text may have.
 #[derive(Drop)]
 struct BlankStore {
@@ -323,8 +333,7 @@ impl Store for BlankStore {
 
     fn read(&mut self, alloc: Global, _name: &str, _limit: u64) -> Result<Vec<u8>, StoreFault> {
         self.counts.count(false);
-        let blanks = vec![in alloc; b' '; 268_435_457];
-        blanks.map_err(|_| StoreFault::NoMemory)
+        blanks(alloc).map_err(|_| StoreFault::NoMemory)
     }
 
     fn write(&mut self, _alloc: Global, _name: &str, _bytes: &[u8]) -> Result<(), StoreFault> {

@@ -5,5 +5,5 @@ use assemble_core::run_program;
 use std::process::ExitCode;
 
 fn main(rt: HostRuntime) -> ExitCode {
-    ExitCode::from(run_program(&rt, rt.alloc()))
+    ExitCode::from(run_program(&rt))
 }

@@ -1,6 +1,6 @@
 -- The texts of a map, under their names.
-use Rattle.std.proofs.Common.{◌≡◌, ◌∙◌, sym, ap, refl, ℕ, List, [], ◌∷◌, Bool, true, false, map}
-use Rattle.std.specs.Prelude.{Some, None, cond, String, Vec, string_bytes}
+use Rattle.std.proofs.Common.{◌≡◌, sym, refl, ℕ, List, [], ◌∷◌, Bool, true, false, map}
+use Rattle.std.specs.Prelude.{Some, cond, String, Vec, string_bytes}
 use Rattle.std.specs.declared.option.Option.{Option}
 use Rattle.std.specs.declared.alloc.Global.{Global}
 use Rattle.std.specs.Option.{option_map}

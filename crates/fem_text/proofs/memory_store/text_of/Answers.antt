@@ -1,4 +1,4 @@
-use Rattle.std.proofs.Common.{sym, rules, ◌∙◌}
+use Rattle.std.proofs.Common.{rules}
 use Rattle.fem_text.proofs.Named.{held_listed}
 use Rattle.fem_text.proofs.memory_store.text_of.Goals as goal
 
