@@ -12,3 +12,5 @@ pub mod Ties
 pub mod Dones
 pub mod Sets
 pub mod Machines
+pub mod PairLaws
+pub mod HandLaws

@@ -9,12 +9,12 @@ use Rattle.atomic_table.specs.Table.{State}
 use Rattle.atomic_table.proofs.Lists.{at_map}
 use Rattle.colored_copier.specs.declared.view.View.{View}
 use Rattle.colored_copier.specs.declared.view.Phase.{Phase}
-use Rattle.colored_copier.specs.declared.view.Phase.TheVariants.{Claimed}
+use Rattle.colored_copier.specs.declared.view.Phase.TheVariants.{Fresh, Claimed}
 use Rattle.colored_copier.specs.Phases.{claims}
-use Rattle.colored_copier.specs.Machine.{IsExclusive}
+use Rattle.colored_copier.specs.Machine.{Machine, IsExclusive}
 use Rattle.colored_copier.specs.Plans.{In}
 use Rattle.colored_copier.specs.Rule.{total, claiming, overs, parts, RoundRule}
-use Rattle.colored_copier.specs.Shown.{phase_of, shown, StatesAreExclusive, ClaimsAreEvents, SplitsAreEvents, JoinsAreEvents}
+use Rattle.colored_copier.specs.Shown.{phase_of, shown, StartsFresh, StatesAreExclusive, ClaimsAreEvents, SplitsAreEvents, JoinsAreEvents}
 use Rattle.colored_copier.proofs.Claims.{is_same, at_map_back}
 use Rattle.colored_copier.proofs.Totals.{term_le, terms_le, total_le}
 
@@ -65,6 +65,9 @@ module _ {X S : Type 0} where
         let k = o.counts in
         let some-over : total overs s.views ≤ total parts s.views = total_le overs parts s.views (λ j x e. (k.each j x e).0) in
         omega (arith, k.few, k.split, some-over, k.all_parts)
+
+pub starts_fresh : {X S : Type 0} → StartsFresh X S
+starts_fresh start v e = ap (λ (p : Phase). record { next = 0; phases = p ∷ [] }) e
 
 pub states : {X S : Type 0} → StatesAreExclusive X S
 states seats items start plan finish s o = (exclusive seats items start plan finish s o, apart seats items start plan finish s o)

@@ -5,7 +5,7 @@ use Rattle.scratch_pool.specs.Passes as pool
 use Rattle.scratch_pool.specs.Pools as pools
 use Rattle.colored_copier.specs.declared.view.Phase.{Phase}
 use Rattle.colored_copier.specs.declared.view.Phase.TheVariants.{Fresh, Claimed, Over}
-use Rattle.colored_copier.specs.Phases.{IsOver}
+use Rattle.colored_copier.specs.Phases.{IsOver, Free}
 use Rattle.colored_copier.specs.Passes.{PassView, IsSame}
 use Rattle.colored_copier.specs.Views.{RoundView, IsPassOf}
 
@@ -31,3 +31,10 @@ module _ {X : Type 0} where
     pub same_scratch : pools.IsSame s t
     pub empty : t.holds ≡ None
     pub over_or_fresh : IsOver q.phase ⊎ ((q.phase ≡ Fresh) × pools.RoseBelow objects s.looks t.looks)
+
+  -- After the run: a pass of this round that is over or fresh, and a pass of the pool that holds nothing.
+  pub record IsFinished (round : RoundView X) (pool_table : TableId) (q : PassView X) (t : pool.PassView) : Type 0 where
+    pub of_round : IsPassOf round q
+    pub free : Free q.phase
+    pub of_pool : t.table ≡ pool_table
+    pub empty : t.holds ≡ None

@@ -2,7 +2,7 @@
 use Rattle.std.specs.Prelude.{◌≡◌, ◌≢◌, ℕ, ◌+◌, ◌%◌, ◌^◌, ◌<◌, List, ◌∷◌, ◌++◌, [], map, slice_index, slice_set}
 use mathlib.Core.Option.{some}
 use lib.ListN.{get_elem?}
-use Rattle.atomic_table.specs.Table.{State, Me, Act, stepped}
+use Rattle.atomic_table.specs.Table.{State, Me, Act, opening, stepped}
 use Rattle.colored_copier.specs.declared.view.View.{View}
 use Rattle.colored_copier.specs.declared.view.Phase.{Phase}
 use Rattle.colored_copier.specs.declared.view.Phase.TheVariants.{Fresh, Claimed}
@@ -20,6 +20,10 @@ module _ {X S : Type 0} where
   shown s = record { next = slice_index s.words 0; phases = map phase_of s.views }
 
 module _ (X S : Type 0) where
+  -- a new table shows one fresh pass, which all others are split from, and the number 0
+  abbrev pub StartsFresh : Type 0
+  StartsFresh = (start : List S) (v : View X) → v.phase ≡ Fresh → shown (opening (0 ∷ []) start v) ≡ record { next = 0; phases = Fresh ∷ [] }
+
   -- each table that meets the rule shows a state in which no item and no row is with two passes
   abbrev pub StatesAreExclusive : Type 0
   StatesAreExclusive = (seats items : ℕ) (start : List S) (plan : ℕ → List (ℕ × S)) (finish : ℕ → S → S) (s : State S (View X)) → RoundRule seats items start plan finish s

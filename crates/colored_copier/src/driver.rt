@@ -1,10 +1,10 @@
 //! Hands that work a round until all its items are done.
-ghost use Rattle.std.specs.Prelude.{◌≡◌, ◌<◌, ◌≤◌, ◌^◌, ℕ, true, All, Any, length, ◌⊎◌, slice_index_or};
+ghost use Rattle.std.specs.Prelude.{◌≡◌, ◌<◌, ◌≤◌, ◌+◌, ◌^◌, ℕ, true, All, Any, length, ◌⊎◌, slice_index_or};
 ghost use Rattle.scratch_pool.specs.Pools.{RoseBelow};
 ghost use Rattle.colored_copier.specs.Phases.{IsOver, NotOver};
 ghost use Rattle.colored_copier.specs.Passes.{IsSame};
 ghost use Rattle.colored_copier.specs.Views.{IsPassOf, job_of, seats_of};
-ghost use Rattle.colored_copier.specs.Hands.{IsReady, IsThrough};
+ghost use Rattle.colored_copier.specs.Hands.{IsReady, IsThrough, IsFinished};
 
 use crate::job::RowJob;
 use crate::pass::RoundPass;
@@ -18,6 +18,14 @@ pub struct ColorHand<J: RowJob> {
     pub pass: RoundPass<J>,
     pub scratch: PoolPass<J::Scratch>,
     pub copy: J::Copy,
+}
+
+// The number that an item has at the gate.
+fn gate_number(first: u64, item: u64) -> u64
+    requires { (first ≤ 2 ^ 32) × (item < 2 ^ 32) }
+    ensures { result ≡ first + item }
+{
+    item + first
 }
 
 // Claims and writes until the pass is over.
@@ -42,7 +50,7 @@ fn work_all<J: RowJob, G: Gate>(
         match round.claim(pass) {
             Claimed::Item(turn) => {
                 next = turn.item() + 1;
-                gate.pass(first + turn.item());
+                gate.pass(gate_number(first, turn.item()));
                 let worked = job.work(turn, scratch, copy);
                 round.write_rows(pass, job, worked, copy);
             }
@@ -125,6 +133,7 @@ pub fn run_colored<J: RowJob, G: Gate + Sync, R: Threads + Sync>(
     requires hands { All (λ h. IsReady round.now pool.now.table h.pass h.scratch × J.has_room job.now h.copy) hands.old }
     ensures len { length hands.new ≡ length hands.old }
     ensures each { (k : ℕ) (d : _) → k < length hands.old → IsThrough pool.now.objects (slice_index_or hands.old k d).pass (slice_index_or hands.old k d).scratch (slice_index_or hands.new k d).pass (slice_index_or hands.new k d).scratch × J.has_room job.now (slice_index_or hands.new k d).copy }
+    ensures finished { All (λ h. IsFinished round.now pool.now.table h.pass h.scratch × J.has_room job.now h.copy) hands.new }
     ensures over { Any (λ h. IsOver h.pass.phase) hands.new }
     ensures spare { (spare.new ≡ spare.old) ⊎ ((k : ℕ) (d : _) → k < length hands.old → RoseBelow pool.now.objects (slice_index_or hands.old k d).scratch.looks (slice_index_or hands.new k d).scratch.looks) }
 {

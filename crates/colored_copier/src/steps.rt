@@ -4,7 +4,7 @@ ghost use Rattle.colored_copier.specs.Keyed.{claimed, dealing, dealt, joined, sp
 ghost use Rattle.colored_copier.specs.Machine.{ClaimEvent, SplitEvent, JoinEvent};
 ghost use Rattle.colored_copier.specs.Phases.{NotOver, Free, Rises};
 ghost use Rattle.colored_copier.specs.Rule.{carried, view};
-ghost use Rattle.colored_copier.specs.Shown.{StatesAreExclusive, ClaimsAreEvents, SplitsAreEvents, JoinsAreEvents};
+ghost use Rattle.colored_copier.specs.Shown.{StartsFresh, StatesAreExclusive, ClaimsAreEvents, SplitsAreEvents, JoinsAreEvents};
 ghost use Rattle.colored_copier.specs.declared.view.Phase.TheVariants as phase;
 
 use crate::job::RowJob;
@@ -86,6 +86,7 @@ pub(crate) fn join_pass<J: RowJob>(table: &RowTable<J>, seat: &mut RowSeat<J>, o
 /// A table that meets the rule shows a state of the machine, in which no item and no row is with two passes, and each kind
 /// of step, whatever else is in the table, is one event of the machine.
 pub fn rounds_are_machines<X, S>()
+    ensures start { StartsFresh X S }
     ensures states { StatesAreExclusive X S }
     ensures claims { ClaimsAreEvents X S }
     ensures splits { SplitsAreEvents X S }

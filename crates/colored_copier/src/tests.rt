@@ -1,10 +1,11 @@
 //! A toy job, whose item n has the rows 2 n and 2 n + 1.
-ghost use Rattle.std.specs.Prelude.{◌≡◌, ◌+◌, ◌*◌, ◌%◌, ◌^◌, ◌<◌, ◌≤◌, ℕ, [], ◌∷◌, map, length, vec_len, true, IfOk, MatchBool};
+ghost use Rattle.std.specs.Prelude.{◌≡◌, ◌+◌, ◌*◌, ◌%◌, ◌^◌, ◌<◌, ◌≤◌, ℕ, [], ◌∷◌, map, length, vec_len, true, IfOk, All, Any};
 ghost use Rattle.std.specs.List.{range_with_len};
 ghost use Rattle.std.specs.Vec.{vec_capacity};
 ghost use Rattle.colored_copier.specs.Passes.{IsSame};
 ghost use Rattle.colored_copier.specs.Phases.{IsOver, NotOver};
-ghost use Rattle.colored_copier.specs.Views.{IsPassOf, job_of};
+ghost use Rattle.colored_copier.specs.Hands.{IsReady, IsFinished};
+ghost use Rattle.colored_copier.specs.Views.{IsPassOf, job_of, seats_of};
 
 use crate::{Claimed, ColorHand, Round, RoundPass, RowJob, RowTurn, RowWorked, run_colored};
 use scratch_pool::{Gate, HoldGate, OpenGate, Pool};
@@ -18,7 +19,7 @@ use std::thread::Threads;
 pub struct Pairs {
     rows: Vec<[u32; 2]>,
     ghost few: { vec_len rows ≤ 1000 },
-    ghost pairs: { rows.items ≡ map (λ n. 2 * n ∷ 2 * n + 1 ∷ []) (range_with_len 0 (vec_len rows)) },
+    ghost pairs: { rows.items ≡ map (λ n. (2 * n) ∷ (2 * n + 1) ∷ []) (range_with_len 0 (vec_len rows)) },
 }
 
 impl RowJob for Pairs {
@@ -30,7 +31,7 @@ impl RowJob for Pairs {
 
     ghost count = { λ j. vec_len j.rows };
 
-    ghost rows_of = { λ j i. 2 * i ∷ 2 * i + 1 ∷ [] };
+    ghost rows_of = { λ j i. (2 * i) ∷ (2 * i + 1) ∷ [] };
 
     ghost has_place = { λ j s. Unit {0} };
 
@@ -150,6 +151,36 @@ fn two<T>(values: &mut Vec<T>) -> (T, T)
     (first, second)
 }
 
+// Works the round with the hands of a vector.
+fn work_in_threads<G: Gate + Sync, R: Threads + Sync>(
+    rt: &R,
+    job: &Pairs,
+    round: &Round<Pairs>,
+    pool: &Pool<u64>,
+    hands: &mut Vec<ColorHand<Pairs>>,
+    spare: &mut u64,
+    first: u64,
+    gate: &G,
+)
+    requires all { (0 < vec_len hands.old) × (vec_len hands.old ≡ seats_of round.now) }
+    requires job { (job.now ≡ job_of round.now) × (first ≤ 2 ^ 32) }
+    requires hands { All (λ h. IsReady round.now pool.now.table h.pass h.scratch × Unit {0}) hands.old.items }
+    ensures len { vec_len hands.new ≡ vec_len hands.old }
+    ensures finished { All (λ h. IsFinished round.now pool.now.table h.pass h.scratch × Unit {0}) hands.new.items }
+    ensures over { Any (λ h. IsOver h.pass.phase) hands.new.items }
+{
+    run_colored(
+        rt,
+        job,
+        round,
+        pool,
+        hands.as_mut_slice(),
+        spare,
+        first,
+        gate,
+    );
+}
+
 // The rows and the spare object after two hands have worked eight items. Where `out` is true, a third pass of the pool tries
 // for an object first, and keeps it.
 fn run<G: Gate + Sync, R: Threads + Sync>(
@@ -157,9 +188,11 @@ fn run<G: Gate + Sync, R: Threads + Sync>(
     alloc: Global,
     objects: Vec<u64>,
     out: bool,
+    first: u64,
     gate: &G,
 ) -> Result<(Vec<(u32, u64)>, u64), Fail>
-    requires { (0 < vec_len objects) × (vec_len objects ≤ 64) }
+    requires objects { (0 < vec_len objects) × (vec_len objects ≤ 64) }
+    requires first { first ≤ 2 ^ 32 }
 {
     let job = make_pairs(alloc, 8)?;
     let rows = hundreds(alloc, 17)?;
@@ -191,14 +224,14 @@ fn run<G: Gate + Sync, R: Threads + Sync>(
         copy: 0u64,
     });
     let mut spare = 77u64;
-    run_colored(
+    work_in_threads(
         rt,
         &job,
         &round,
         &pool,
-        hands.as_mut_slice(),
+        &mut hands,
         &mut spare,
-        0,
+        first,
         gate,
     );
     let (first, second) = two(&mut hands);
@@ -222,8 +255,8 @@ fn run<G: Gate + Sync, R: Threads + Sync>(
 fn hands_write_each_row_once(rt: HostRuntime) -> Result<(), Fail> {
     let one = [0].to_vec(rt.alloc())?;
     let three = [0, 0, 0].to_vec(rt.alloc())?;
-    let (rows, spare) = run(&rt, rt.alloc(), one, false, &OpenGate)?;
-    let (again, _) = run(&rt, rt.alloc(), three, false, &OpenGate)?;
+    let (rows, spare) = run(&rt, rt.alloc(), one, false, 0, &OpenGate)?;
+    let (again, _) = run(&rt, rt.alloc(), three, false, 0, &OpenGate)?;
     // Row r of the item r / 2 has 100 + (r / 2 + 1) + r.
     let wanted = [
         101, 102, 104, 105, 107, 108, 110, 111, 113, 114, 116, 117, 119, 120, 122, 123, 100,
@@ -240,7 +273,7 @@ fn hands_write_each_row_once(rt: HostRuntime) -> Result<(), Fail> {
 #[test]
 fn the_caller_works_where_no_object_is_at_home(rt: HostRuntime) -> Result<(), Fail> {
     let one = [0].to_vec(rt.alloc())?;
-    let (rows, spare) = run(&rt, rt.alloc(), one, true, &OpenGate)?;
+    let (rows, spare) = run(&rt, rt.alloc(), one, true, 0, &OpenGate)?;
     assert_eq!(rt; rows.len(), 17);
     assert_eq!(rt; rows[15], (15, 123));
     assert_eq!(rt; spare, 1);
@@ -251,9 +284,23 @@ fn the_caller_works_where_no_object_is_at_home(rt: HostRuntime) -> Result<(), Fa
 fn item_one_passes_while_item_zero_is_held(rt: HostRuntime) -> Result<(), Fail> {
     let two = [0, 0].to_vec(rt.alloc())?;
     let gate = HoldGate::new(1_000_000_000);
-    let (rows, _) = run(&rt, rt.alloc(), two, false, &gate)?;
+    let (rows, _) = run(&rt, rt.alloc(), two, false, 0, &gate)?;
     assert_eq!(rt; rows.len(), 17);
     assert_eq!(rt; rows[0], (0, 101));
     assert!(rt; !gate.gave_up());
+    Ok(())
+}
+
+// With one object one hand alone works, so the first item would wait for the second in vain if it had the number 0.
+#[test]
+fn items_have_numbers_from_the_first_on(rt: HostRuntime) -> Result<(), Fail> {
+    let one = [0].to_vec(rt.alloc())?;
+    let gate = HoldGate::new(100);
+    run(&rt, rt.alloc(), one, false, 1, &gate)?;
+    assert!(rt; !gate.gave_up());
+    let one = [0].to_vec(rt.alloc())?;
+    let gate = HoldGate::new(100);
+    run(&rt, rt.alloc(), one, false, 0, &gate)?;
+    assert!(rt; gate.gave_up());
     Ok(())
 }

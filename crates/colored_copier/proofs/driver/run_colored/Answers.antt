@@ -1,5 +1,6 @@
-use Rattle.std.proofs.Common.{arith, subst, sym, inl, inr, ⊎_elim, ◌∙◌, ◌<◌, length}
+use Rattle.std.proofs.Common.{arith, length-set, subst, sym, inl, inr, ⊎_elim, ◌∙◌, ◌<◌, length}
 use Rattle.scratch_pool.specs.Pools.{RoseBelow}
+use Rattle.colored_copier.proofs.HandLaws.{finished_all}
 use Rattle.colored_copier.proofs.Sets.{set_by, any_set}
 use Rattle.colored_copier.proofs.Ties.{not_both}
 use Rattle.colored_copier.specs.Phases.{IsOver}
@@ -48,3 +49,11 @@ returns-clause-spare g c =
     (λ o. absurd (not_both _ o (c.loop-i.invariant 0 c.index-hands-0.result (omega (arith, c.loop-i-test.false, c.in_threads.ensures.len, c.requires.all.0)))))
     (λ f. f.1)
     (c.in_threads.ensures.each 0 c.index-hands-0.result c.requires.all.0).0.over_or_fresh))
+
+pub returns-then-is_over-clause-finished : goal.returns-then-is_over-clause-finished
+returns-then-is_over-clause-finished g c =
+    finished_all (λ h. h.pass) (λ h. h.scratch) (λ h. g.J.RowJob.has_room c.args.job.now h.copy) c.args.round.now c.args.pool.now.table c.args.pool.now.objects c.args.hands.now c.in_threads.new.hands c.in_threads.ensures.len c.requires.hands c.in_threads.ensures.each
+
+pub returns-clause-finished : goal.returns-clause-finished
+returns-clause-finished g c =
+    finished_all (λ h. h.pass) (λ h. h.scratch) (λ h. g.J.RowJob.has_room c.args.job.now h.copy) c.args.round.now c.args.pool.now.table c.args.pool.now.objects c.args.hands.now _ (length-set c.in_threads.new.hands 0 _ ∙ c.in_threads.ensures.len) c.requires.hands (returns-clause-each g c)

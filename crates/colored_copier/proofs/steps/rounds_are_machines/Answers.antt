@@ -1,5 +1,8 @@
-use Rattle.colored_copier.proofs.Machines.{states, claims_shown, splits_shown, joins_shown}
+use Rattle.colored_copier.proofs.Machines.{starts_fresh, states, claims_shown, splits_shown, joins_shown}
 use Rattle.colored_copier.proofs.steps.rounds_are_machines.Goals as goal
+
+pub returns-clause-start : goal.returns-clause-start
+returns-clause-start g c = starts_fresh
 
 pub returns-clause-states : goal.returns-clause-states
 returns-clause-states g c = states
