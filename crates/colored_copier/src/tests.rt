@@ -224,16 +224,7 @@ fn run<G: Gate + Sync, R: Threads + Sync>(
         copy: 0u64,
     });
     let mut spare = 77u64;
-    work_in_threads(
-        rt,
-        &job,
-        &round,
-        &pool,
-        &mut hands,
-        &mut spare,
-        first,
-        gate,
-    );
+    work_in_threads(rt, &job, &round, &pool, &mut hands, &mut spare, first, gate);
     let (first, second) = two(&mut hands);
     hands.destroy_empty();
     let ColorHand {
