@@ -1,5 +1,5 @@
 -- What a hand is before and after a coloured run.
-use Rattle.std.specs.Prelude.{◌≡◌, ℕ, ◌+◌, ◌⊎◌, None, true}
+use Rattle.std.specs.Prelude.{◌≡◌, ℕ, ◌+◌, ◌⊎◌, ◌<◌, List, length, slice_index_or, None, true}
 use Rattle.atomic_table.specs.Seated.{TableId}
 use Rattle.scratch_pool.specs.Passes as pool
 use Rattle.scratch_pool.specs.Pools as pools
@@ -8,6 +8,10 @@ use Rattle.colored_copier.specs.declared.view.Phase.TheVariants.{Fresh, Claimed,
 use Rattle.colored_copier.specs.Phases.{IsOver, Free}
 use Rattle.colored_copier.specs.Passes.{PassView, IsSame}
 use Rattle.colored_copier.specs.Views.{RoundView, IsPassOf}
+
+-- R holds of each element of the first list and the one at its place in the second
+abbrev pub AllBoth : {H : Type 0} → (H → H → Type 0) → List H → List H → Type 0
+AllBoth {H} R old new = (k : ℕ) (d : H) → k < length old → R (slice_index_or old k d) (slice_index_or new k d)
 
 -- one more than the last number claimed
 abbrev pub after : Phase → ℕ

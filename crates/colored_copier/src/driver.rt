@@ -1,10 +1,10 @@
 //! Hands that work a round until all its items are done.
-ghost use Rattle.std.specs.Prelude.{◌≡◌, ◌<◌, ◌≤◌, ◌+◌, ◌^◌, ℕ, true, All, Any, length, ◌⊎◌, slice_index_or};
+ghost use Rattle.std.specs.Prelude.{◌≡◌, ◌<◌, ◌≤◌, ◌+◌, ◌^◌, true, All, Any, length, ◌⊎◌};
 ghost use Rattle.scratch_pool.specs.Pools.{RoseBelow};
 ghost use Rattle.colored_copier.specs.Phases.{IsOver, NotOver};
 ghost use Rattle.colored_copier.specs.Passes.{IsSame};
 ghost use Rattle.colored_copier.specs.Views.{IsPassOf, job_of, seats_of};
-ghost use Rattle.colored_copier.specs.Hands.{IsReady, IsThrough, IsFinished};
+ghost use Rattle.colored_copier.specs.Hands.{IsReady, IsThrough, IsFinished, AllBoth};
 
 use crate::job::RowJob;
 use crate::pass::RoundPass;
@@ -102,7 +102,7 @@ fn in_threads<J: RowJob, G: Gate + Sync, R: Threads + Sync>(
     requires job { (job.now ≡ job_of round.now) × (first ≤ 2 ^ 32) }
     requires hands { All (λ h. IsReady round.now pool.now.table h.pass h.scratch × J.has_room job.now h.copy) hands.old }
     ensures len { length hands.new ≡ length hands.old }
-    ensures each { (k : ℕ) (d : _) → k < length hands.old → IsThrough pool.now.objects (slice_index_or hands.old k d).pass (slice_index_or hands.old k d).scratch (slice_index_or hands.new k d).pass (slice_index_or hands.new k d).scratch × J.has_room job.now (slice_index_or hands.new k d).copy }
+    ensures each { AllBoth (λ h i. IsThrough pool.now.objects h.pass h.scratch i.pass i.scratch × J.has_room job.now i.copy) hands.old hands.new }
 {
     let count = hands.len();
     thread::for_each_mut(
@@ -132,10 +132,10 @@ pub fn run_colored<J: RowJob, G: Gate + Sync, R: Threads + Sync>(
     requires job { (job.now ≡ job_of round.now) × (first ≤ 2 ^ 32) }
     requires hands { All (λ h. IsReady round.now pool.now.table h.pass h.scratch × J.has_room job.now h.copy) hands.old }
     ensures len { length hands.new ≡ length hands.old }
-    ensures each { (k : ℕ) (d : _) → k < length hands.old → IsThrough pool.now.objects (slice_index_or hands.old k d).pass (slice_index_or hands.old k d).scratch (slice_index_or hands.new k d).pass (slice_index_or hands.new k d).scratch × J.has_room job.now (slice_index_or hands.new k d).copy }
+    ensures each { AllBoth (λ h i. IsThrough pool.now.objects h.pass h.scratch i.pass i.scratch × J.has_room job.now i.copy) hands.old hands.new }
     ensures finished { All (λ h. IsFinished round.now pool.now.table h.pass h.scratch × J.has_room job.now h.copy) hands.new }
     ensures over { Any (λ h. IsOver h.pass.phase) hands.new }
-    ensures spare { (spare.new ≡ spare.old) ⊎ ((k : ℕ) (d : _) → k < length hands.old → RoseBelow pool.now.objects (slice_index_or hands.old k d).scratch.looks (slice_index_or hands.new k d).scratch.looks) }
+    ensures spare { (spare.new ≡ spare.old) ⊎ AllBoth (λ h i. RoseBelow pool.now.objects h.scratch.looks i.scratch.looks) hands.old hands.new }
 {
     in_threads(rt, job, round, pool, hands, first, gate);
     for i in 0..hands.len() {
