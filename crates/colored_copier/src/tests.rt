@@ -211,33 +211,33 @@ fn run<G: Gate + Sync, R: Threads + Sync>(
     if out {
         pool.acquire(&mut other);
     }
-    let (first, second) = two(&mut passes);
+    let (left, right) = two(&mut passes);
     let (one, another) = two(&mut seats);
     hands.push_reserved(ColorHand {
-        pass: first,
+        pass: left,
         scratch: one,
         copy: 0u64,
     });
     hands.push_reserved(ColorHand {
-        pass: second,
+        pass: right,
         scratch: another,
         copy: 0u64,
     });
     let mut spare = 77u64;
     work_in_threads(rt, &job, &round, &pool, &mut hands, &mut spare, first, gate);
-    let (first, second) = two(&mut hands);
+    let (left, right) = two(&mut hands);
     hands.destroy_empty();
     let ColorHand {
         pass,
         scratch: _,
         copy: _,
-    } = first;
+    } = left;
     passes.push_reserved(pass);
     let ColorHand {
         pass,
         scratch: _,
         copy: _,
-    } = second;
+    } = right;
     passes.push_reserved(pass);
     Ok((round.close(passes), spare))
 }
