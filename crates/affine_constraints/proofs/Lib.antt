@@ -10,3 +10,4 @@ pub mod ProgressLaws
 pub mod AnswerLaws
 pub mod OneAnswer
 pub mod Existence
+pub mod Tables

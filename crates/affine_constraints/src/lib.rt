@@ -14,6 +14,7 @@ mod laws;
 mod line;
 mod line_set;
 mod search;
+mod table;
 mod term;
 #[cfg(test)]
 mod tests;

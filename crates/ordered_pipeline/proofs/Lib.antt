@@ -1,0 +1,13 @@
+pub mod Phases
+pub mod Draws
+pub mod Keeps
+pub mod Rings
+pub mod Plays
+pub mod Ends
+pub mod Jobs
+pub mod Tied
+pub mod Folds
+pub mod Closing
+pub mod Slotted
+pub mod Begins
+pub mod Events

@@ -1,0 +1,13 @@
+pub mod Fold
+pub mod Machine
+pub mod Rule
+pub mod Plays
+pub mod Passes
+pub mod Lines
+pub mod Views
+pub mod Ending
+pub mod Fresh
+pub mod Answers
+pub mod Hands
+pub mod Slots
+pub mod Laws

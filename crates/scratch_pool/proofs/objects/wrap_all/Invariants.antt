@@ -1,0 +1,9 @@
+use Rattle.std.proofs.Common.{◌≡◌, ◌≤◌, ◌+◌, ◌++◌, map, reverse, vec_len, Some}
+use Rattle.std.specs.Vec.{vec_capacity}
+use Rattle.scratch_pool.proofs.objects.wrap_all.Given as goal
+
+abbrev pub invariant-loop-object : goal.invariant-loop-object
+invariant-loop-object g l = (map Some l.from.items ++ reverse l.to.items ≡ map Some l.initial.from.items) × (vec_capacity l.from ≡ vec_capacity l.initial.from) × (vec_len l.from + vec_len l.to ≤ vec_capacity l.to)
+
+abbrev pub decreases-loop-object : goal.decreases-loop-object
+decreases-loop-object g l = vec_len l.from
