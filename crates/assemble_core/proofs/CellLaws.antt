@@ -6,7 +6,8 @@ use Rattle.std.specs.declared.option.Option.{Option}
 use Rattle.fem_fixed.specs.declared.mesh.Point.{Point}
 use Rattle.quad_mesh.specs.declared.cells.Quad.{Quad}
 use Rattle.fem_fixed.specs.Mesh.{IsWithinReach}
-use Rattle.fixed_q1.specs.CellForm.{CellForm, cell_form}
+use Rattle.fixed_q1.specs.LocalForm.{LocalForm}
+use Rattle.fixed_q1.specs.CellForm.{cell_form}
 use Rattle.fixed_q1.specs.declared.fault.LocalFault.{LocalFault}
 use Rattle.fixed_q1.proofs.Bounds.{form_small}
 use Rattle.assemble_core.specs.Numbering.{vertices}
@@ -46,6 +47,6 @@ pub formed : (table : List (Option ℕ)) (points : List Point) (quad : Quad) (ma
     matrix_contributions (table_dofs table quad) matrix ≡ contributions (table_block table points quad)
 formed table points quad matrix load h = sym (ap (form_contributions (table_dofs table quad)) h)
 
-pub is_formed : (r : Result CellForm LocalFault) (form : CellForm) → r ≡ Ok form → IsOk r
+pub is_formed : (r : Result LocalForm LocalFault) (form : LocalForm) → r ≡ Ok form → IsOk r
 is_formed (Ok f) form h = refl
 is_formed (Err e) form h = cc

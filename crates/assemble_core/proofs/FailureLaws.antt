@@ -9,7 +9,7 @@ use Rattle.std.proofs.lemmas.List.Concat.{flat_map-append, flat_map-cons}
 use Rattle.std.proofs.lemmas.Option.{slice_get-get_or, slice_get_within}
 use Rattle.std.proofs.lemmas.Bool.{cases_lt}
 use Rattle.std.proofs.lemmas.Grind.{common_steps}
-use Rattle.fixed_q1.specs.CellForm.{CellForm}
+use Rattle.fixed_q1.specs.LocalForm.{LocalForm}
 use Rattle.fixed_q1.specs.declared.fault.LocalFault.{LocalFault}
 use Rattle.assemble_core.specs.SerialSum.{Block, Contribution, contributions, sum_of, entry, FailsAtRow, IsLeastRow, Fails, FailsFirst, HasSum}
 use Rattle.assemble_core.specs.Sums.{Sums, sum_at, Holds, AddsAll, PassesAt}
@@ -28,14 +28,14 @@ not_both : (o : Option ℤ) → IsSome o → o ≡ None → ⊥
 not_both None h e = cc
 not_both (Some a) h e = cc
 
-formed_or_not : (r : Result CellForm LocalFault) (fault : LocalFault) → IsOk r → r ≡ Err fault → ⊥
+formed_or_not : (r : Result LocalForm LocalFault) (fault : LocalFault) → IsOk r → r ≡ Err fault → ⊥
 formed_or_not (Ok form) fault h e = cc
 formed_or_not (Err other) fault h e = cc
 
 block_form : (b : Block) (dofs : List ℕ) (fault : LocalFault) → Some b ≡ Some (record { dofs = dofs; form = Err fault }) → b.form ≡ Err fault
 block_form b dofs fault e = ap form_in e
   where
-    form_in : Option Block → Result CellForm LocalFault
+    form_in : Option Block → Result LocalForm LocalFault
     form_in None = Err fault
     form_in (Some x) = x.form
 
@@ -92,7 +92,7 @@ pub local_fails : (cells : List Block) (t : ℕ) (d : Block) (fault : LocalFault
     (slice_index_or cells t d).form ≡ Err fault → FailsFirst 0 cells t × ((dofs : List ℕ) × (slice_get cells t ≡ Some (record { dofs = dofs; form = Err fault })))
 local_fails cells t d fault sums size within so_far h =
     let at : slice_get cells t ≡ Some (record { dofs = (slice_index_or cells t d).dofs; form = Err fault }) =
-    slice_get-get_or cells t d within ∙ ap (λ (form : Result CellForm LocalFault). Some (record { dofs = (slice_index_or cells t d).dofs; form = form })) h in (
+    slice_get-get_or cells t d within ∙ ap (λ (form : Result LocalForm LocalFault). Some (record { dofs = (slice_index_or cells t d).dofs; form = form })) h in (
       record { fails = inl ((slice_index_or cells t d).dofs, fault, at); first = none_before cells t sums size so_far },
       ((slice_index_or cells t d).dofs, at),
     )
@@ -220,7 +220,7 @@ one_failure cells (Local t a) (Local u b) p q (ft, (d, at)) (fu, (e, au)) =
     fault_in None = a
     fault_in (Some block) = of_form block.form
       where
-        of_form : Result CellForm LocalFault → LocalFault
+        of_form : Result LocalForm LocalFault → LocalFault
         of_form (Ok form) = a
         of_form (Err fault) = fault
 one_failure cells (Local t a) (Sum u row) p q (ft, (d, at)) (fu, least) =

@@ -6,7 +6,8 @@ use Rattle.std.proofs.lemmas.Grind.{common_steps}
 use Rattle.std.specs.Prelude.{Ok, Err, OnOk, OnErr}
 use Rattle.std.specs.declared.result.Result.{Result}
 use Rattle.fem_text.specs.declared.sink.Failed.{Failed}
-use Rattle.fem_text.specs.Causes.{HasCause}
+use Rattle.fem_text.specs.declared.counts.Counts.{Counts}
+use Rattle.fem_text.specs.Counts.{HasCause}
 use Rattle.fem_text.specs.Outside.{appended, TookPrefix}
 use Rattle.assemble_core.specs.Refusals.{TookLine}
 
@@ -50,13 +51,13 @@ took_back out mid now front back e (n, short, f) =
         counted n m = omega arith
 
 -- what a put of a line says, whether it failed or not
-pub told_line : (out now : Option (List ℕ)) (faults faults_now : ℕ) (line : List ℕ) (answer : Result (Unit {0}) Failed) → OnOk answer (now ≡ appended out line) →
-    OnErr answer (TookPrefix out now line) → HasCause faults faults_now answer → TookLine out now faults faults_now line
-told_line out now faults faults_now line (Ok u) ok err cause = inl ok
-told_line out now faults faults_now line (Err e) ok err cause = inr (cause.failed, err)
+pub told_line : (out now : Option (List ℕ)) (counts counts_now : Counts) (line : List ℕ) (answer : Result (Unit {0}) Failed) → OnOk answer (now ≡ appended out line) →
+    OnErr answer (TookPrefix out now line) → HasCause counts counts_now answer → TookLine out now counts counts_now line
+told_line out now counts counts_now line (Ok u) ok err cause = inl (cause.kept, ok)
+told_line out now counts counts_now line (Err e) ok err cause = inr (cause.failed, err)
 
 -- the same of a line that is put in parts
-pub told_parts : (out now : Option (List ℕ)) (faults faults_now : ℕ) (line : List ℕ) (answer : Result (Unit {0}) Failed) → OnOk answer (now ≡ appended out line) →
-    TookPrefix out now line → HasCause faults faults_now answer → TookLine out now faults faults_now line
-told_parts out now faults faults_now line (Ok u) ok part cause = inl ok
-told_parts out now faults faults_now line (Err e) ok part cause = inr (cause.failed, part)
+pub told_parts : (out now : Option (List ℕ)) (counts counts_now : Counts) (line : List ℕ) (answer : Result (Unit {0}) Failed) → OnOk answer (now ≡ appended out line) →
+    TookPrefix out now line → HasCause counts counts_now answer → TookLine out now counts counts_now line
+told_parts out now counts counts_now line (Ok u) ok part cause = inl (cause.kept, ok)
+told_parts out now counts counts_now line (Err e) ok part cause = inr (cause.failed, part)

@@ -12,7 +12,7 @@ use Rattle.std.proofs.lemmas.List.FromFn.{fill_by_all}
 use Rattle.std.proofs.lemmas.List.Elements.{recursion_from_All}
 use Rattle.fem_fixed.specs.declared.mesh.Point.{Point}
 use Rattle.quad_mesh.specs.declared.cells.Quad.{Quad}
-use Rattle.fixed_q1.specs.CellForm.{CellForm}
+use Rattle.fixed_q1.specs.LocalForm.{LocalForm}
 use Rattle.fixed_q1.specs.declared.fault.LocalFault.{LocalFault}
 use Rattle.assemble_core.specs.Numbering.{vertices, corner_list, contains, dof_of, dof_count}
 use Rattle.assemble_core.specs.Pattern.{is_coupled}
@@ -71,7 +71,7 @@ matrix_any dofs matrix i j =
         ∙ any_and_left (slice_index dofs a == i) (λ b. slice_index dofs b == j) (range_with_len 0 (length dofs))
         ∙ ap (λ b. slice_index dofs a == i && b) (any_place (λ d. d == j) dofs)
 
-form_any : (dofs : List ℕ) (form : Result CellForm LocalFault) (i j : ℕ) → IsOk form → list_any (is_at i j) (contributions (record { dofs = dofs; form = form })) ≡ (contains dofs i && contains dofs j)
+form_any : (dofs : List ℕ) (form : Result LocalForm LocalFault) (i j : ℕ) → IsOk form → list_any (is_at i j) (contributions (record { dofs = dofs; form = form })) ≡ (contains dofs i && contains dofs j)
 form_any dofs (Ok form) i j h = matrix_any dofs form.matrix i j
 form_any dofs (Err fault) i j h = cc
 

@@ -1,7 +1,8 @@
 -- The statuses of refusals, and their lines for the diagnostics.
 use Rattle.std.specs.Prelude.{◌≡◌, ◌⊎◌, ℕ, List, [], ◌++◌, codes, decimal}
 use Rattle.std.specs.declared.option.Option.{Option}
-use Rattle.fem_text.specs.Causes.{Rose}
+use Rattle.fem_text.specs.declared.counts.Counts.{Counts}
+use Rattle.fem_text.specs.Counts.{AllWell, EndsInFault}
 use Rattle.fem_text.specs.Outside.{appended, TookPrefix}
 use Rattle.fixed_q1.specs.declared.fault.LocalFault.{LocalFault}
 use Rattle.fixed_q1.specs.declared.fault.LocalFault.TheVariants.{Distorted, Size}
@@ -81,6 +82,6 @@ line_of (Mesh fault) = numbered (mesh_front fault) (mesh_place fault) (codes "\n
 line_of (Local cell fault) = numbered (codes "assemble: 7 Local cell ") cell (local_back fault)
 line_of (Sum cell row) = sum_line cell row
 
--- a sink took this line; or a put to it failed, and it took a prefix
-abbrev pub TookLine : Option (List ℕ) → Option (List ℕ) → ℕ → ℕ → List ℕ → Type 0
-TookLine before now faults faults_now line = (now ≡ appended before line) ⊎ (Rose faults faults_now × TookPrefix before now line)
+-- a sink took this line; or a put to it failed, which was the last one, and it took a prefix
+abbrev pub TookLine : Option (List ℕ) → Option (List ℕ) → Counts → Counts → List ℕ → Type 0
+TookLine before now counts counts_now line = (AllWell counts counts_now × (now ≡ appended before line)) ⊎ (EndsInFault counts counts_now × TookPrefix before now line)

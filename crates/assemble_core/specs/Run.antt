@@ -1,10 +1,12 @@
 -- What a run of the program may leave.
-use Rattle.std.specs.Prelude.{◌≡◌, ◌⊎◌, ℕ, List, [], ◌∷◌, Bool, ◌==◌, IfSome, Some, codes, if◌then◌else◌}
+use Rattle.std.specs.Prelude.{◌≡◌, ◌⊎◌, ℕ, List, [], ◌∷◌, Bool, ◌==◌, IfSome, Some, None, Ok, Err, true, false, codes, if◌then◌else◌}
 use Rattle.std.specs.declared.option.Option.{Option}
+use Rattle.std.specs.declared.result.Result.{Result}
 use Rattle.std.specs.List.{list_any}
-use Rattle.fem_text.specs.Causes.{Rose}
+use Rattle.fem_text.specs.declared.counts.Counts.{Counts}
+use Rattle.fem_text.specs.Counts.{Rose, after_call}
 use Rattle.fem_text.specs.Outside.{Held, appended, TookPrefix}
-use Rattle.ucd_read.specs.declared.fault.UcdFault.{UcdFault}
+use Rattle.ucd_read.specs.Faults.{UcdFault}
 use Rattle.ucd_read.specs.declared.fault.UcdKind.{UcdKind}
 use Rattle.ucd_read.specs.declared.fault.UcdKind.TheVariants as kinds
 use Rattle.quad_mesh.specs.declared.fault.MeshFault.{MeshFault}
@@ -38,11 +40,11 @@ abbrev pub is_refusal : ℕ → Bool
 is_refusal status = list_any (λ number. number == status) (2 ∷ 3 ∷ 5 ∷ 7 ∷ 8 ∷ 9 ∷ 17 ∷ [])
 
 -- they define a refusal with this status, and the diagnostics took its line, or a prefix where a put failed
-pub record Told (words : List (List ℕ)) (held : Option Held) (err now : Option (List ℕ)) (faults faults_now status : ℕ) : Type 0 where
+pub record Told (words : List (List ℕ)) (held : Option Held) (err now : Option (List ℕ)) (counts counts_now : Counts) (status : ℕ) : Type 0 where
   pub refusal : Refusal
   pub status_is : status ≡ status_of refusal
   pub refuses : Refuses words held refusal
-  pub line : TookLine err now faults faults_now (line_of refusal)
+  pub line : TookLine err now counts counts_now (line_of refusal)
 
 -- the line that goes to the diagnostics with 10, 11 or 12
 unfoldable pub outside_line : ℕ → List ℕ
@@ -52,10 +54,15 @@ outside_line status =
     else codes "assemble: 12 NoMemory\n"
 
 -- where neither the store nor the output failed, the status is the answer's, or that of want of memory
-abbrev pub IsComplete : List (List ℕ) → Option Held → ℕ → ℕ → ℕ → ℕ → ℕ → Type 0
+abbrev pub IsComplete : List (List ℕ) → Option Held → Counts → Counts → Counts → Counts → ℕ → Type 0
 IsComplete words held store store_now out out_now status =
     (Rose store store_now → ⊥) → (Rose out out_now → ⊥) →
     IfSome held (λ texts. (answer : Answer) → Answers words texts answer → (status ≡ answer_status answer) ⊎ (status ≡ 12))
+
+-- what the store counts after a run: words that name no mesh call nothing, and all others read once
+abbrev pub counts_after : Option (List ℕ) → Bool → Counts → Counts
+counts_after None failed before = before
+counts_after (Some name) failed before = after_call failed before
 
 -- the words name this text of those that are held
 abbrev pub NamesText : List (List ℕ) → Option Held → List ℕ → Type 0
@@ -95,3 +102,11 @@ abbrev pub of_assembly : AssembleFault → Fault
 of_assembly (sums.Local cell fault) = Refused (refusals.Local cell fault)
 of_assembly (sums.Sum cell row) = Refused (refusals.Sum cell row)
 of_assembly sums.NoMemory = Memory
+
+-- the read failed
+abbrev pub read_failed : {T : Type 0} → Result T Fault → Bool
+read_failed (Err Read) = true
+read_failed (Err Write) = false
+read_failed (Err Memory) = false
+read_failed (Err (Refused refusal)) = false
+read_failed (Ok value) = false

@@ -5,13 +5,13 @@ use Rattle.std.specs.declared.option.Option.{Option}
 use Rattle.std.specs.declared.result.Result.{Result}
 use Rattle.std.specs.List.{flat_map, range_with_len}
 use Rattle.fem_fixed.specs.KeptSum.{added}
-use Rattle.fixed_q1.specs.CellForm.{CellForm}
+use Rattle.fixed_q1.specs.LocalForm.{LocalForm}
 use Rattle.fixed_q1.specs.declared.fault.LocalFault.{LocalFault}
 
 -- what a cell gives to the sum: its dofs, and its local form or the fault of that
 pub record Block : Type 0 where
   pub dofs : List ℕ
-  pub form : Result CellForm LocalFault
+  pub form : Result LocalForm LocalFault
 
 -- a value, in units of 2^-32, that goes to the entry (row, column)
 pub record Contribution : Type 0 where
@@ -33,7 +33,7 @@ row_contributions dofs matrix i = map (contribution dofs matrix i) (range_with_l
 abbrev pub matrix_contributions : List ℕ → List (List ℤ) → List Contribution
 matrix_contributions dofs matrix = flat_map (row_contributions dofs matrix) (range_with_len 0 (length dofs))
 
-abbrev pub form_contributions : List ℕ → Result CellForm LocalFault → List Contribution
+abbrev pub form_contributions : List ℕ → Result LocalForm LocalFault → List Contribution
 form_contributions dofs (Ok form) = matrix_contributions dofs form.matrix
 form_contributions dofs (Err fault) = []
 

@@ -1,6 +1,6 @@
 ghost use Rattle.std.specs.Prelude.{◌≡◌, ◌++◌, decimal, OnOk, OnErr};
 ghost use Rattle.fem_text.specs.Outside.{TookPrefix, appended};
-ghost use Rattle.fem_text.specs.Causes.{HasCause};
+ghost use Rattle.fem_text.specs.Counts.{HasCause};
 ghost use Rattle.assemble_core.specs.Refusals as written;
 
 use fem_text::{Failed, Sink, put_text};
@@ -46,7 +46,7 @@ impl Refusal {
 
     /// Puts the line of the refusal, or a prefix of it where a put fails.
     pub fn put_line<K: Sink>(self, err: &mut K)
-        ensures { written.TookLine (K.taken err.old) (K.taken err.new) (K.faults err.old) (K.faults err.new) (written.line_of self) }
+        ensures { written.TookLine (K.taken err.old) (K.taken err.new) (K.counts err.old) (K.counts err.new) (written.line_of self) }
     {
         match self {
             Refusal::Words => put_line(err, b"assemble: 2 Words\n"),
@@ -73,7 +73,7 @@ impl Refusal {
 /// Puts a line, or a prefix of it where a put fails.
 #[tactic(auto, using(crate::proofs::PrefixLaws::told_line))]
 pub fn put_line<K: Sink>(err: &mut K, line: &[u8])
-    ensures { written.TookLine (K.taken err.old) (K.taken err.new) (K.faults err.old) (K.faults err.new) line.now }
+    ensures { written.TookLine (K.taken err.old) (K.taken err.new) (K.counts err.old) (K.counts err.new) line.now }
 {
     let _ = put_text(err, line);
 }
@@ -153,7 +153,7 @@ fn local_back(fault: LocalFault) -> &'static [u8]
 
 #[tactic(auto, using(crate::proofs::PrefixLaws::told_parts))]
 fn put_sum<K: Sink>(err: &mut K, cell: u32, row: u32)
-    ensures { written.TookLine (K.taken err.old) (K.taken err.new) (K.faults err.old) (K.faults err.new) (written.sum_line cell row) }
+    ensures { written.TookLine (K.taken err.old) (K.taken err.new) (K.counts err.old) (K.counts err.new) (written.sum_line cell row) }
 {
     let _ = try_sum(err, cell, row);
 }
@@ -161,7 +161,7 @@ fn put_sum<K: Sink>(err: &mut K, cell: u32, row: u32)
 fn try_sum<K: Sink>(err: &mut K, cell: u32, row: u32) -> Result<(), Failed>
     ensures ok { OnOk result (K.taken err.new ≡ appended (K.taken err.old) (written.sum_line cell row)) }
     ensures part { TookPrefix (K.taken err.old) (K.taken err.new) (written.sum_line cell row) }
-    ensures cause { HasCause (K.faults err.old) (K.faults err.new) result }
+    ensures cause { HasCause (K.counts err.old) (K.counts err.new) result }
 {
     try_numbered(err, b"assemble: 8 Sum cell ", cell, b" row ")?;
     try_numbered(err, b"", row, b"\n")?;
@@ -170,7 +170,7 @@ fn try_sum<K: Sink>(err: &mut K, cell: u32, row: u32) -> Result<(), Failed>
 
 #[tactic(auto, using(crate::proofs::PrefixLaws::told_parts))]
 fn put_numbered<K: Sink>(err: &mut K, front: &[u8], number: u32, back: &[u8])
-    ensures { written.TookLine (K.taken err.old) (K.taken err.new) (K.faults err.old) (K.faults err.new) (written.numbered front.now number back.now) }
+    ensures { written.TookLine (K.taken err.old) (K.taken err.new) (K.counts err.old) (K.counts err.new) (written.numbered front.now number back.now) }
 {
     let _ = try_numbered(err, front, number, back);
 }
@@ -179,7 +179,7 @@ fn put_numbered<K: Sink>(err: &mut K, front: &[u8], number: u32, back: &[u8])
 fn try_numbered<K: Sink>(err: &mut K, front: &[u8], number: u32, back: &[u8]) -> Result<(), Failed>
     ensures ok { OnOk result (K.taken err.new ≡ appended (K.taken err.old) (written.numbered front.now number back.now)) }
     ensures part { TookPrefix (K.taken err.old) (K.taken err.new) (written.numbered front.now number back.now) }
-    ensures cause { HasCause (K.faults err.old) (K.faults err.new) result }
+    ensures cause { HasCause (K.counts err.old) (K.counts err.new) result }
 {
     let mut buffer = Buffer::new();
     put_text(err, front)?;

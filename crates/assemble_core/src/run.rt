@@ -1,17 +1,17 @@
-ghost use Rattle.std.specs.Prelude.{◌≡◌, ◌≤◌, ◌⊎◌, ◌↔◌, map, string_bytes, length, true, OnOk, OnErr, IfOk, IfErr, IsErrOf, None, Ok};
+ghost use Rattle.std.specs.Prelude.{◌≡◌, ◌==◌, ◌≤◌, ◌⊎◌, ◌↔◌, map, string_bytes, length, true, OnOk, OnErr, IfOk, IfErr, IsErrOf, None, Ok};
 ghost use Rattle.fem_fixed.specs.Mesh.{Mesh};
-ghost use Rattle.fem_text.specs.Causes.{Rose};
+ghost use Rattle.fem_text.specs.Counts.{AllWell, EndsInFault};
 ghost use Rattle.assemble_core.specs.Words.{mesh_name};
 ghost use Rattle.assemble_core.specs.Refusals.{TookLine};
 ghost use Rattle.assemble_core.specs.Answer.{text_limit, IsMeshOf, IsMatrixOf};
-ghost use Rattle.assemble_core.specs.Run.{Written, WrittenInPart, Told, FaultSays, TextFails, IsComplete, NamesText, is_refusal, is_status, outside_line};
+ghost use Rattle.assemble_core.specs.Run.{Written, WrittenInPart, Told, FaultSays, TextFails, IsComplete, NamesText, counts_after, read_failed, is_refusal, is_status, outside_line};
 ghost use Rattle.assemble_core.specs.declared.run.Fault.TheVariants.{Refused, Read, Write};
 ghost use Rattle.assemble_core.specs.declared.refusal.Refusal.TheVariants.{Words};
 
 use crate::assembly::{AssembleFault, assemble};
 use crate::matrix_text::matrix_text;
 use crate::refusal::{Refusal, put_line};
-use crate::words;
+use crate::{answer_is_unique, words};
 use fem_text::{Failed, Sink, Store, StoreFault, put_text};
 use quad_mesh::{MeshFault, QuadMesh};
 use std::alloc::Global;
@@ -121,8 +121,7 @@ fn mesh_text<S: Store>(alloc: Global, words: &[String], store: &mut S) -> Result
     ensures same { S.holds store.new ≡ S.holds store.old }
     ensures words { IsErrOf result (Refused Words) ↔ (mesh_name (map string_bytes words.now) ≡ None) }
     ensures fault { IfErr result (FaultSays (map string_bytes words.now) (S.holds store.old)) }
-    ensures read { IsErrOf result Read → Rose (S.faults store.old) (S.faults store.new) }
-    ensures kept { (IsErrOf result Read → ⊥) → S.faults store.new ≡ S.faults store.old }
+    ensures calls { S.counts store.new ≡ counts_after (mesh_name (map string_bytes words.now)) (read_failed result) (S.counts store.old) }
     ensures never { IsErrOf result Write → ⊥ }
 {
     let Some(name) = words::mesh_name(words) else {
@@ -151,12 +150,12 @@ fn work<S: Store, K: Sink>(
     ensures ok { OnOk result (Written (map string_bytes words.now) (S.holds store.old) (K.taken out.old) (K.taken out.new)) }
     ensures store { S.holds store.new ≡ S.holds store.old }
     ensures out { OnErr result ((IsErrOf result Write → ⊥) → K.taken out.new ≡ K.taken out.old) }
+    ensures no_put { OnErr result ((IsErrOf result Write → ⊥) → K.counts out.new ≡ K.counts out.old) }
     ensures words { IsErrOf result (Refused Words) ↔ (mesh_name (map string_bytes words.now) ≡ None) }
     ensures fault { IfErr result (FaultSays (map string_bytes words.now) (S.holds store.old)) }
-    ensures read { IsErrOf result Read → Rose (S.faults store.old) (S.faults store.new) }
-    ensures write { IsErrOf result Write → Rose (K.faults out.old) (K.faults out.new) }
-    ensures counts { (IsErrOf result Read → ⊥) → S.faults store.new ≡ S.faults store.old }
-    ensures puts { (IsErrOf result Write → ⊥) → K.faults out.new ≡ K.faults out.old }
+    ensures calls { S.counts store.new ≡ counts_after (mesh_name (map string_bytes words.now)) (read_failed result) (S.counts store.old) }
+    ensures write { IsErrOf result Write → EndsInFault (K.counts out.old) (K.counts out.new) }
+    ensures puts { OnOk result (AllWell (K.counts out.old) (K.counts out.new)) }
     ensures part { IsErrOf result Write → WrittenInPart (map string_bytes words.now) (S.holds store.old) (K.taken out.old) (K.taken out.new) }
 {
     let text = mesh_text(alloc, words, store)?;
@@ -196,31 +195,37 @@ pub fn run_plain<R: Runtime + Threads, S: Store, K: Sink>(
     out: &mut K,
     err: &mut K,
 ) -> u8
-    // Status 0: the output took exactly the text that the words and the held texts define.
+    // Status 0: the output took exactly the text that the words and the held texts define. Nothing is put to `err`.
     ensures ok { result ≡ 0 → Written (map string_bytes words.now) (S.holds store.old) (K.taken out.old) (K.taken out.new) }
+    ensures ok_puts { result ≡ 0 → AllWell (K.counts out.old) (K.counts out.new) }
     ensures ok_silent { result ≡ 0 → K.taken err.new ≡ K.taken err.old }
+    ensures ok_no_put { result ≡ 0 → K.counts err.new ≡ K.counts err.old }
 
     // Statuses 2, 3, 5, 7, 8, 9 and 17: the words and the held texts define a refusal with this status, and its line was
-    // taken, or a prefix of it where a put to `err` failed.
-    ensures refusal { is_refusal result ≡ true → Told (map string_bytes words.now) (S.holds store.old) (K.taken err.old) (K.taken err.new) (K.faults err.old) (K.faults err.new) result }
+    // taken, or a prefix of it where a put to `err` failed, after which none was made.
+    ensures refusal { is_refusal result ≡ true → Told (map string_bytes words.now) (S.holds store.old) (K.taken err.old) (K.taken err.new) (K.counts err.old) (K.counts err.new) result }
     ensures refusal_words { (result ≡ 2) ↔ (mesh_name (map string_bytes words.now) ≡ None) }
 
-    // Statuses 10 and 11: a count of faults rose, and only then.
-    ensures outside_read { result ≡ 10 → Rose (S.faults store.old) (S.faults store.new) }
-    ensures outside_write { result ≡ 11 → Rose (K.faults out.old) (K.faults out.new) }
-    ensures outside_part { result ≡ 11 → WrittenInPart (map string_bytes words.now) (S.holds store.old) (K.taken out.old) (K.taken out.new) }
-    ensures outside_reads { (result ≡ 10 → ⊥) → S.faults store.new ≡ S.faults store.old }
-    ensures outside_puts { (result ≡ 11 → ⊥) → K.faults out.new ≡ K.faults out.old }
-    ensures outside_line { (result ≡ 10) ⊎ (result ≡ 11) ⊎ (result ≡ 12) → TookLine (K.taken err.old) (K.taken err.new) (K.faults err.old) (K.faults err.new) (outside_line result) }
+    // The store is called once, to read the mesh, and not at all where the words are refused. Status 10: that call
+    // failed, and only then.
+    ensures store_calls { S.counts store.new ≡ counts_after (mesh_name (map string_bytes words.now)) (result == 10) (S.counts store.old) }
 
-    // Where no count rose, the status is that of the answer, or 12.
-    ensures completeness { IsComplete (map string_bytes words.now) (S.holds store.old) (S.faults store.old) (S.faults store.new) (K.faults out.old) (K.faults out.new) result }
+    // Status 11: a put to `out` failed, after which none was made, and only then.
+    ensures outside_write { result ≡ 11 → EndsInFault (K.counts out.old) (K.counts out.new) }
+    ensures outside_part { result ≡ 11 → WrittenInPart (map string_bytes words.now) (S.holds store.old) (K.taken out.old) (K.taken out.new) }
+    ensures outside_line { (result ≡ 10) ⊎ (result ≡ 11) ⊎ (result ≡ 12) → TookLine (K.taken err.old) (K.taken err.new) (K.counts err.old) (K.counts err.new) (outside_line result) }
+
+    // Where no count of faults rose, the status is that of the answer, or 12.
+    ensures completeness { IsComplete (map string_bytes words.now) (S.holds store.old) (S.counts store.old) (S.counts store.new) (K.counts out.old) (K.counts out.new) result }
     ensures completeness_statuses { is_status result ≡ true }
 
-    // Nothing is written with a status other than 0 and 11, and so with 12, want of memory.
+    // Nothing is put with a status other than 0 and 11, and so with 12, want of memory.
     ensures memory { (result ≡ 0 → ⊥) → (result ≡ 11 → ⊥) → K.taken out.new ≡ K.taken out.old }
+    ensures memory_no_put { (result ≡ 0 → ⊥) → (result ≡ 11 → ⊥) → K.counts out.new ≡ K.counts out.old }
     ensures memory_store { S.holds store.new ≡ S.holds store.old }
 {
+    // The law by which the status is that of the answer.
+    answer_is_unique();
     match work(alloc, words, store, out) {
         Ok(()) => 0,
         Err(Fault::Refused(refusal)) => {
@@ -236,7 +241,7 @@ pub fn run_plain<R: Runtime + Threads, S: Store, K: Sink>(
 // Puts the line of status 10, 11 or 12, and answers the status.
 fn report<K: Sink>(err: &mut K, status: u8) -> u8
     ensures status { result ≡ status }
-    ensures line { TookLine (K.taken err.old) (K.taken err.new) (K.faults err.old) (K.faults err.new) (outside_line status) }
+    ensures line { TookLine (K.taken err.old) (K.taken err.new) (K.counts err.old) (K.counts err.new) (outside_line status) }
 {
     put_line(err, outside_line(status));
     status

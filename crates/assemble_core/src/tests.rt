@@ -1,6 +1,6 @@
 use super::*;
-use fem_text::{MemorySink, MemoryStore};
-use std::alloc::Global;
+use fem_text::{Counts, MemorySink, MemoryStore, Store, StoreFault};
+use std::alloc::{AllocError, Global};
 use std::process::Abort;
 use std::rt::Runtime;
 use std::test::Fail;
@@ -23,9 +23,9 @@ fn words_of(alloc: Global, words: &[&str]) -> Result<Vec<String>, Fail> {
     Ok(list)
 }
 
-fn store_with(alloc: Global, text: &str, fail_reads: Vec<u32>) -> Result<MemoryStore, Fail> {
+fn store_with(alloc: Global, text: &str, fail_reads: Vec<u64>) -> Result<MemoryStore, Fail> {
     let mut store = MemoryStore::new(alloc, fail_reads, Vec::new(alloc));
-    store.hold(alloc, "mesh", text.as_bytes())?;
+    store.hold("mesh", text.as_bytes())?;
     Ok(store)
 }
 
@@ -129,12 +129,20 @@ fn coarse_meshes_and_cells_are_refused(rt: HostRuntime) -> Result<(), Fail> {
         "4 3 0 0 0\n1 0 0 0\n2 1 0 0\n3 1 1 0\n4 0 1 0\n1 1 quad 1 2 3 4\n2 5 line 1 2\n3 6 line 2 1\n";
     let tiny =
         "8 2 0 0 0\n1 0 0 0\n2 1 0 0\n3 1 1 0\n4 0 1 0\n5 10 0 0\n6 10.0000152587890625 0 0\n7 10 0.0000152587890625 0\n8 10 0.0000152587890625 0\n1 1 quad 1 2 3 4\n2 1 quad 5 6 7 8\n";
+    let apart = "20 5 0 0 0\n1 0 0 0\n2 1 0 0\n3 1 1 0\n\
+4 0 1 0\n5 10 0 0\n6 10.0000152587890625 0 0\n7 10 0.0000152587890625 0\n\
+8 10 0.0000152587890625 0\n9 20 0 0\n10 20.0000152587890625 0 0\n11 20 0.0000152587890625 0\n\
+12 20 0.0000152587890625 0\n13 30 0 0\n14 31 0 0\n15 31 1 0\n\
+16 30 1 0\n17 40 0 0\n18 40.0000152587890625 0 0\n19 40 0.0000152587890625 0\n\
+20 40 0.0000152587890625 0\n1 1 quad 1 2 3 4\n2 1 quad 5 6 7 8\n3 1 quad 9 10 11 12\n\
+4 1 quad 13 14 15 16\n5 1 quad 17 18 19 20\n";
     let cases = [
         (bent, 5, "assemble: 5 Mesh NotConvex 0\n"),
         (shared, 5, "assemble: 5 Mesh EdgeShared 2\n"),
         (stray, 5, "assemble: 5 Mesh LineOffEdge 0\n"),
         (twice, 5, "assemble: 5 Mesh BoundaryTwice 1\n"),
         (tiny, 7, "assemble: 7 Local cell 1 Distorted\n"),
+        (apart, 7, "assemble: 7 Local cell 1 Distorted\n"),
     ];
     for (text, status, line) in cases {
         refused(&rt, rt.alloc(), "mesh", text, status, line)?;
@@ -260,6 +268,93 @@ fn slow_text(alloc: Global, cells: &[[u32; 4]]) -> Result<String, Fail> {
     )?;
     text.push_str(lines.as_str())?;
     Ok(text)
+}
+
+// The grid of 4 by 4 unit cells: its mesh text, and the nodes of its cells by place.
+fn grid(alloc: Global) -> Result<(String, Vec<[u32; 4]>), Fail> {
+    let mut text = String::from_str(alloc, "25 16 0 0 0\n")?;
+    for node in 0..25u32 {
+        let line = format!(in alloc; "{} {} {} 0\n", node.wrapping_add(1), node % 5, node / 5)?;
+        text.push_str(line.as_str())?;
+    }
+    let mut cells = Vec::new(alloc);
+    for cell in 0..16u32 {
+        let a = (cell / 4)
+            .wrapping_mul(5)
+            .wrapping_add(cell % 4)
+            .wrapping_add(1);
+        let (b, c, d) = (a.wrapping_add(1), a.wrapping_add(6), a.wrapping_add(5));
+        let line = format!(in alloc; "{} 1 quad {a} {b} {c} {d}\n", cell.wrapping_add(1))?;
+        text.push_str(line.as_str())?;
+        cells.push([a, b, d, c])?;
+    }
+    Ok((text, cells))
+}
+
+#[test]
+fn the_third_put_fails_behind_1024_bytes(rt: HostRuntime) -> Result<(), Fail> {
+    let alloc = rt.alloc();
+    let words = words_of(alloc, &["--mesh", "mesh"])?;
+    let (text, cells) = grid(alloc)?;
+    let mut store = store_with(alloc, text.as_str(), Vec::new(alloc))?;
+    let mut out = MemorySink::new(alloc, 65_536, vec![in alloc; 3]?)?;
+    let mut err = MemorySink::new(alloc, 4096, Vec::new(alloc))?;
+    let status = run_plain(&rt, alloc, words.as_slice(), &mut store, &mut out, &mut err);
+    assert_eq!(rt; status, 11);
+    assert_eq!(rt; out.taken().len(), 1024);
+    let expected = slow_text(alloc, cells.as_slice())?;
+    assert!(rt; expected.as_bytes().starts_with(out.taken()));
+    assert_eq!(rt; err.taken(), b"assemble: 11 WriteFault matrix\n".as_slice());
+    Ok(())
+}
+
+fn blanks(alloc: Global) -> Result<Vec<u8>, AllocError> {
+    let piece = vec![in alloc; b' '; 65_536]?;
+    let mut text = Vec::with_capacity(alloc, 268_435_457)?;
+    for _ in 0..4096 {
+        text.extend_from_slice(&piece)?;
+    }
+    text.push(b' ')?;
+    Ok(text)
+}
+
+// A store that answers one blank more than a mesh text may have.
+#[derive(Drop)]
+struct BlankStore {
+    counts: Counts,
+}
+
+impl Store for BlankStore {
+    ghost use Rattle.std.specs.Prelude.{None};
+
+    ghost holds = { λ _. None };
+
+    ghost counts = { λ store. store.counts };
+
+    fn read(&mut self, alloc: Global, _name: &str, _limit: u64) -> Result<Vec<u8>, StoreFault> {
+        self.counts.count(false);
+        blanks(alloc).map_err(|_| StoreFault::NoMemory)
+    }
+
+    fn write(&mut self, _alloc: Global, _name: &str, _bytes: &[u8]) -> Result<(), StoreFault> {
+        self.counts.count(true);
+        Err(StoreFault::Failed)
+    }
+}
+
+#[test]
+fn a_text_above_the_limit_is_refused(rt: HostRuntime) -> Result<(), Fail> {
+    let alloc = rt.alloc();
+    let words = words_of(alloc, &["--mesh", "mesh"])?;
+    let mut store = BlankStore {
+        counts: Counts::new(),
+    };
+    let mut out = MemorySink::new(alloc, 4096, Vec::new(alloc))?;
+    let mut err = MemorySink::new(alloc, 4096, Vec::new(alloc))?;
+    let status = run_plain(&rt, alloc, words.as_slice(), &mut store, &mut out, &mut err);
+    assert_eq!(rt; status, 9);
+    assert_eq!(rt; err.taken(), b"assemble: 9 Limit MeshSize\n".as_slice());
+    Ok(())
 }
 
 #[test]

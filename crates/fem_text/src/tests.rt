@@ -1,9 +1,11 @@
+use crate::streams::{read_up_to, write_all};
 use crate::{
-    DiskStore, Failed, MemorySink, MemoryStore, Sink, StdSink, Store, StoreFault, TextLines,
-    put_text,
+    DiskStore, Failed, MemorySink, MemoryStore, Sink, StdSink, Store, StoreFault, TextFault,
+    TextLines, WordLines, at_line, exactly, id_at, number_at, put_text,
 };
-use std::fs;
+use std::io::{ErrorKind, Read, Write};
 use std::test::Fail;
+use std::{fs, io};
 
 #[test]
 fn a_listed_put_takes_nothing_and_a_full_room_what_fits(rt: HostRuntime) -> Result<(), Fail> {
@@ -33,7 +35,7 @@ fn a_text_is_put_in_pieces(rt: HostRuntime) -> Result<(), Fail> {
 #[test]
 fn a_store_fails_where_it_is_told_to(rt: HostRuntime) -> Result<(), Fail> {
     let mut store = MemoryStore::new(rt.alloc(), vec![in rt.alloc(); 1]?, vec![in rt.alloc(); 2]?);
-    store.hold(rt.alloc(), "mesh", b"0123456789")?;
+    store.hold("mesh", b"0123456789")?;
     assert_eq!(rt;
         store.read(rt.alloc(), "mesh", 4).err(),
         Some(StoreFault::Failed)
@@ -78,6 +80,34 @@ fn lines_and_words(rt: HostRuntime) -> Result<(), Fail> {
 }
 
 #[test]
+fn lines_that_count_and_their_words(rt: HostRuntime) -> Result<(), Fail> {
+    let mut lines = WordLines::new(b"\n# none\n7 -0.5\n \n", Some(b'#'));
+    let line = lines.next_line().ok_or("no line")?;
+    assert_eq!(rt; exactly(2, 'w', &line), Ok(()));
+    assert_eq!(rt; exactly(3, 'w', &line), Err('w'));
+    assert_eq!(rt; id_at('i', &line, 0), Ok(7));
+    assert_eq!(rt; number_at('n', 65_536, &line, 1), Ok(-32_768));
+    assert_eq!(rt; number_at('n', 32_767, &line, 1), Err('n'));
+    assert_eq!(rt;
+        at_line(id_at('i', &line, 1), &line).err(),
+        Some(TextFault { kind: 'i', line: 3 })
+    );
+    assert_eq!(rt;
+        lines.expect('e').err(),
+        Some(TextFault { kind: 'e', line: 5 })
+    );
+    assert!(rt; lines.next_line().is_none());
+    let mut behind = WordLines::new(b"% one\n\n% two\n 3 %\n% four\n", None);
+    let third = behind
+        .expect_behind_comments(b'%', 'e')
+        .ok()
+        .ok_or("no line")?;
+    assert_eq!(rt; third.number, 4);
+    assert_eq!(rt; behind.expect('e').ok().ok_or("no line")?.number, 5);
+    Ok(())
+}
+
+#[test]
 fn a_file_is_written_and_read(rt: HostRuntime) -> Result<(), Fail> {
     let name = "fem_text_test.txt";
     let mut store = DiskStore::new(&rt);
@@ -92,9 +122,107 @@ fn a_file_is_written_and_read(rt: HostRuntime) -> Result<(), Fail> {
     Ok(())
 }
 
+// A source that gives three bytes a read at most, and fails at the read of this number, counted from 1.
+#[derive(Drop)]
+struct ShortSource<'a> {
+    left: &'a [u8],
+    reads: u32,
+    fails_at: u32,
+}
+
+impl Read for ShortSource<'_> {
+    fn read(&mut self, buf: &mut [u8]) -> io::Result<usize> {
+        self.reads = self.reads.saturating_add(1);
+        if self.reads == self.fails_at {
+            return Err(io::Error::from(ErrorKind::Other));
+        }
+        let count = self.left.len().min(buf.len()).min(3);
+        buf[..count].copy_from_slice(&self.left[..count]);
+        self.left = &self.left[count..];
+        Ok(count)
+    }
+}
+
 #[test]
-fn standard_streams_take_text(rt: HostRuntime) {
+fn a_source_is_read_up_to_its_limit(rt: HostRuntime) -> Result<(), Fail> {
+    let cases: [(u64, u32, Option<&[u8]>, &[u8]); 5] = [
+        (20, 0, Some(b"0123456789"), b""),
+        (9, 0, Some(b"0123456789"), b""),
+        (4, 0, Some(b"01234"), b"56789"),
+        (0, 0, Some(b"0"), b"123456789"),
+        (20, 3, None, b"6789"),
+    ];
+    for (limit, fails_at, read, left) in cases {
+        let mut source = ShortSource {
+            left: b"0123456789",
+            reads: 0,
+            fails_at,
+        };
+        match read_up_to(rt.alloc(), &mut source, limit) {
+            Ok(bytes) => assert_eq!(rt; Some(bytes.as_slice()), read),
+            Err(fault) => {
+                assert_eq!(rt; fault, StoreFault::Failed);
+                assert!(rt; read.is_none());
+            }
+        }
+        assert_eq!(rt; source.left, left);
+    }
+    Ok(())
+}
+
+// A target that takes three bytes a write at most, and fails, or takes nothing, at the write of this number.
+#[derive(Drop)]
+struct ShortTarget {
+    taken: Vec<u8>,
+    writes: u32,
+    fails_at: u32,
+    stops_at: u32,
+}
+
+impl Write for ShortTarget {
+    fn write(&mut self, buf: &[u8]) -> io::Result<usize> {
+        self.writes = self.writes.saturating_add(1);
+        if self.writes == self.fails_at {
+            return Err(io::Error::from(ErrorKind::Other));
+        }
+        if self.writes == self.stops_at {
+            return Ok(0);
+        }
+        let count = buf.len().min(3);
+        match self.taken.extend_from_slice(&buf[..count]) {
+            Ok(()) => Ok(count),
+            Err(_) => Err(io::Error::from(ErrorKind::OutOfMemory)),
+        }
+    }
+
+    fn flush(&mut self) -> io::Result<()> {
+        Ok(())
+    }
+}
+
+#[test]
+fn a_target_takes_all_or_a_prefix(rt: HostRuntime) -> Result<(), Fail> {
+    let cases: [(u32, u32, Result<(), Failed>, &[u8]); 4] = [
+        (0, 0, Ok(()), b"0123456789"),
+        (1, 0, Err(Failed), b""),
+        (3, 0, Err(Failed), b"012345"),
+        (0, 2, Err(Failed), b"012"),
+    ];
+    for (fails_at, stops_at, answer, taken) in cases {
+        let mut target = ShortTarget {
+            taken: Vec::new(rt.alloc()),
+            writes: 0,
+            fails_at,
+            stops_at,
+        };
+        assert_eq!(rt; write_all(&mut target, b"0123456789"), answer);
+        assert_eq!(rt; target.taken.as_slice(), taken);
+    }
+    Ok(())
+}
+
+#[test]
+fn standard_streams_take_bytes(rt: HostRuntime) {
     assert_eq!(rt; StdSink::new(&rt, false).put(b"taken\n"), Ok(()));
     assert_eq!(rt; StdSink::new(&rt, true).put(b"taken\n"), Ok(()));
-    assert_eq!(rt; StdSink::new(&rt, true).put(b"\xff"), Err(Failed));
 }

@@ -1,6 +1,7 @@
-use Rattle.std.proofs.Common.{◌≡◌, ◌∙◌, ap, List, ◌++◌, ℕ, subst}
+use Rattle.std.proofs.Common.{rules, ◌≡◌, ◌∙◌, ap, List, ◌++◌, ℕ, subst}
 use Rattle.std.specs.Prelude.{decimal}
 use Rattle.fem_text.specs.Outside.{TookPrefix, appended}
+use Rattle.fem_text.proofs.Counted.{well_well, well_fault}
 use Rattle.assemble_core.proofs.PrefixLaws.{took_whole, took_front, took_both, took_back}
 use Rattle.assemble_core.proofs.refusal.try_numbered.Goals as goal
 
@@ -31,3 +32,19 @@ returns-clause-ok g c =
 
 pub returns-clause-part : goal.returns-clause-part
 returns-clause-part g c = took_whole _ _ _ (returns-clause-ok g c)
+
+pub returns-in_err-put_text-2-clause-cause : goal.returns-in_err-put_text-2-clause-cause
+returns-in_err-put_text-2-clause-cause g c =
+    let fault = well_fault _ _ _ c.in_ok-put_text.ensures.cause.kept c.in_err-put_text-2.ensures.cause.failed in
+    search (rules, fault)
+
+pub returns-in_err-put_text-3-clause-cause : goal.returns-in_err-put_text-3-clause-cause
+returns-in_err-put_text-3-clause-cause g c =
+    let well = well_well _ _ _ c.in_ok-put_text.ensures.cause.kept c.in_ok-put_text-2.ensures.cause.kept in
+    let fault = well_fault _ _ _ well c.in_err-put_text-3.ensures.cause.failed in
+    search (rules, fault)
+
+pub returns-clause-cause : goal.returns-clause-cause
+returns-clause-cause g c =
+    let well = well_well _ _ _ c.in_ok-put_text.ensures.cause.kept c.in_ok-put_text-2.ensures.cause.kept in
+    record { failed = tt; kept = well_well _ _ _ well c.in_ok-put_text-3.ensures.cause.kept }

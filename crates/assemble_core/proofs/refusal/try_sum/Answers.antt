@@ -1,4 +1,6 @@
+use Rattle.std.proofs.Common.{rules}
 use Rattle.std.specs.Prelude.{[], codes}
+use Rattle.fem_text.proofs.Counted.{well_well, well_fault}
 use Rattle.assemble_core.specs.Refusals.{numbered}
 use Rattle.assemble_core.proofs.PrefixLaws.{took_whole, took_front, took_back, took_both}
 use Rattle.assemble_core.proofs.refusal.try_sum.Goals as goal
@@ -17,3 +19,11 @@ returns-clause-ok g c =
 
 pub returns-clause-part : goal.returns-clause-part
 returns-clause-part g c = took_whole _ _ _ (returns-clause-ok g c)
+
+pub returns-in_err-try_numbered-2-clause-cause : goal.returns-in_err-try_numbered-2-clause-cause
+returns-in_err-try_numbered-2-clause-cause g c =
+    let fault = well_fault _ _ _ c.in_ok-try_numbered.ensures.cause.kept c.in_err-try_numbered-2.ensures.cause.failed in
+    search (rules, fault)
+
+pub returns-clause-cause : goal.returns-clause-cause
+returns-clause-cause g c = record { failed = tt; kept = well_well _ _ _ c.in_ok-try_numbered.ensures.cause.kept c.in_ok-try_numbered-2.ensures.cause.kept }

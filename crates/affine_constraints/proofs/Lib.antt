@@ -1,0 +1,13 @@
+pub mod Places
+pub mod Ranges
+pub mod FormLaws
+pub mod Zero
+pub mod Naming
+pub mod OrderLaws
+pub mod ReachLaws
+pub mod ClosedLaws
+pub mod ProgressLaws
+pub mod AnswerLaws
+pub mod OneAnswer
+pub mod Existence
+pub mod Tables

@@ -1,0 +1,16 @@
+pub mod Chains
+pub mod Totals
+pub mod Claims
+pub mod Jobs
+pub mod Ends
+pub mod Picks
+pub mod Search
+pub mod Placed
+pub mod Writes
+pub mod Rows
+pub mod Ties
+pub mod Dones
+pub mod Sets
+pub mod Machines
+pub mod PairLaws
+pub mod HandLaws

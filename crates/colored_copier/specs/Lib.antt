@@ -1,0 +1,14 @@
+pub mod Phases
+pub mod Machine
+pub mod Plans
+pub mod Rule
+pub mod Shown
+pub mod Keyed
+pub mod Passes
+pub mod Conditions
+pub mod Places
+pub mod Views
+pub mod Answers
+pub mod Ending
+pub mod Fresh
+pub mod Hands

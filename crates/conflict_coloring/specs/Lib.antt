@@ -1,0 +1,12 @@
+pub mod Conflict
+pub mod Zones
+pub mod Steps
+pub mod Colours
+pub mod Links
+pub mod Cut
+pub mod Counts
+pub mod RowTable
+pub mod Near
+pub mod Board
+pub mod Top
+pub mod Coloring

@@ -1,0 +1,16 @@
+pub mod Coarse
+pub mod Refined
+pub mod Points
+pub mod Sides
+pub mod Order
+pub mod Stored
+pub mod Unrefined
+pub mod Numbered
+pub mod Faces
+pub mod Closure
+pub mod Step
+pub mod Turns
+pub mod Fitness
+pub mod Refinement
+pub mod Grown
+pub mod Laws

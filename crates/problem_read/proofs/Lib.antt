@@ -1,0 +1,8 @@
+mod FirstWord
+mod Sums
+mod ItemLists
+mod Entries
+mod Limits
+mod SoFar
+mod TieLines
+mod TextFaults

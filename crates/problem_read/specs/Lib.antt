@@ -1,0 +1,10 @@
+pub mod Entries
+pub mod Sums
+pub mod Shapes
+pub mod EntryLine
+pub mod Problem
+pub mod LookUps
+pub mod Limits
+pub mod Steps
+pub mod Ties
+pub mod Held

@@ -1,0 +1,110 @@
+ghost use Rattle.std.specs.Prelude.{◌≡◌, ◌<◌, ◌==◌, length};
+ghost use Rattle.fem_text.specs.Lines.{words_of};
+ghost use Rattle.problem_read.specs.Shapes.{keyword_of, is_equation, has_shape, keyword_at};
+ghost use Rattle.problem_read.specs.Sums.{is_sum};
+
+use crate::ProblemKind;
+use crate::ties::{is_constant, is_term};
+use crate::words::Words;
+use fem_text::TextLine;
+
+/// The first word of a line, which says what the line sets.
+#[derive(Clone, Copy)]
+pub(crate) enum Keyword {
+    Diffusion,
+    Source,
+    Robin,
+    Dirichlet,
+    Penalty,
+    Refine,
+    Constraint,
+}
+
+/// The first word of a line that has the shape of such a line.
+#[tactic(auto, unfolding(crate::specs::Shapes::keyword_at))]
+pub(crate) fn keyword_at(line: &TextLine) -> Result<Keyword, ProblemKind>
+    ensures { result ≡ keyword_at (words_of line.now.bytes.now) }
+{
+    let Some(word) = line.word(0) else {
+        return Err(ProblemKind::Word);
+    };
+    let keyword = keyword_of(word).ok_or(ProblemKind::Word)?;
+    if has_shape(keyword, line) {
+        Ok(keyword)
+    } else {
+        Err(ProblemKind::Word)
+    }
+}
+
+#[tactic(auto, unfolding(crate::specs::Shapes::keyword_of))]
+fn keyword_of(word: &[u8]) -> Option<Keyword>
+    ensures { result ≡ keyword_of word.now }
+{
+    if word == b"diffusion".as_slice() {
+        return Some(Keyword::Diffusion);
+    }
+    if word == b"source".as_slice() {
+        return Some(Keyword::Source);
+    }
+    if word == b"robin".as_slice() {
+        return Some(Keyword::Robin);
+    }
+    if word == b"dirichlet".as_slice() {
+        return Some(Keyword::Dirichlet);
+    }
+    if word == b"penalty".as_slice() {
+        return Some(Keyword::Penalty);
+    }
+    if word == b"refine".as_slice() {
+        return Some(Keyword::Refine);
+    }
+    if word == b"constraint".as_slice() {
+        return Some(Keyword::Constraint);
+    }
+    None
+}
+
+fn has_shape(keyword: Keyword, line: &TextLine) -> bool
+    ensures { result ≡ has_shape keyword (words_of line.now.bytes.now) }
+{
+    match keyword {
+        Keyword::Diffusion | Keyword::Source | Keyword::Dirichlet => has_words(line, 3),
+        Keyword::Robin => has_words(line, 4),
+        Keyword::Penalty => has_words(line, 2),
+        Keyword::Refine => line.word(1).is_some(),
+        Keyword::Constraint => is_equation(line),
+    }
+}
+
+fn has_words(line: &TextLine, count: u32) -> bool
+    requires { 0 < count }
+    ensures { result ≡ (length (words_of line.now.bytes.now) == count) }
+{
+    line.word(count - 1).is_some() && line.word(count).is_none()
+}
+
+fn is_equation(line: &TextLine) -> bool
+    ensures { result ≡ is_equation (words_of line.now.bytes.now) }
+{
+    match line.word(2) {
+        Some(word) if word == b"=".as_slice() => is_sum(Words::behind(line, 3)),
+        _ => false,
+    }
+}
+
+fn is_sum(mut words: Words) -> bool
+    ensures { result ≡ is_sum words.entry }
+{
+    while let Some(word) = words.next_word() {
+        if !is_term(word) {
+            return is_constant(word) && words.next_word().is_none();
+        }
+        let Some(sign) = words.next_word() else {
+            return true;
+        };
+        if sign != b"+".as_slice() {
+            return false;
+        }
+    }
+    false
+}
