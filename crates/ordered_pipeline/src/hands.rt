@@ -1,4 +1,4 @@
-//! Hands that draw, work and copy until all items are done.
+//! The driver: hands in threads that draw, work and copy until all items are done.
 ghost use Rattle.std.specs.Prelude.{◌≡◌, ◌<◌, ℕ, None, true, false, All, length, slice_index_or, IsSome, IsSomeAnd};
 ghost use Rattle.ordered_pipeline.specs.declared.view.Phase.TheVariants as phase;
 ghost use Rattle.ordered_pipeline.specs.Passes.{IsPassOf, IsSame};
@@ -15,7 +15,7 @@ use std::sync::Wait;
 use std::thread;
 use std::thread::Threads;
 
-/// What one thread of an ordered run has.
+/// What one thread of an ordered run has: its pass of the pipeline, and its pass of the pool of scratch objects.
 pub struct Hand<J: Job> {
     pub pass: Pass<J>,
     pub scratch: PoolPass<J::Scratch>,
@@ -118,7 +118,10 @@ fn run_hand<J: Job, G: Gate, R: Wait>(
     unreachable!()
 }
 
-/// Works and copies all items: each hand draws until it is over.
+/// Works and copies all items: each hand draws, starts, takes a scratch object, passes the gate, works, returns the
+/// object, finishes and copies, until it is over. Where it can't go on yet it pauses by a `Backoff` and tries again;
+/// nothing rests on the pause. It may wait for another hand, and takes no memory. A thread that can't be started is
+/// no error: its hand runs in the caller.
 pub fn run_ordered<J: Job, G: Gate + Sync, R: Threads + Wait + Sync>(
     rt: &R,
     job: &J,

@@ -1,4 +1,4 @@
-//! The pipeline.
+//! The pipeline: what callers see of it.
 ghost use Rattle.std.specs.Prelude.{Some, ◌≡◌, ◌<◌, ◌≤◌, ◌^◌, ◌+◌, ℕ, All, Any, List, [], ◌++◌, ◌∷◌, true, false, map, reverse, length, vec_len, IfOk, IfErr, IsSomeAnd};
 ghost use Rattle.std.specs.Vec.{vec_capacity};
 ghost use Rattle.std.specs.Slots.{slots_items, slots_len, IsFull};
@@ -27,7 +27,9 @@ use std::alloc::Global;
 use std::marker::Model;
 use std::snapshot::Snapshot;
 
-/// Items are drawn in order, worked by many passes, and copied one after another in their order.
+/// Items are drawn in order, worked by many passes, and copied one after another in their order, by whichever pass
+/// finishes the item whose turn it is. Contracts see which pipeline it is, with its job, the state at first, and
+/// the numbers of items, copy objects and passes.
 pub struct Pipeline<J: Job> {
     line: Line<J>,
     room: Parked<Vec<J::Copy>>,
@@ -48,7 +50,8 @@ impl<J: Job> Model for Pipeline<J> {
 }
 
 impl<J: Job> Pipeline<J> {
-    /// Draws the next item, by one step.
+    /// Draws the next item, by one step. `Over(n)` where the counter stood at n, at least the number of items; then the
+    /// pass is over.
     pub fn draw(&self, pass: &mut Pass<J>) -> Drawn
         requires pass { IsPassOf self.now.table self.now.key pass.old }
         requires idle { (pass.old.phase ≡ phase.Idle) × (pass.old.over ≡ false) }
@@ -58,7 +61,8 @@ impl<J: Job> Pipeline<J> {
         self.line.draw_item(pass)
     }
 
-    /// Looks once, and starts the item that the pass has drawn where it is near enough to the copied ones.
+    /// Looks once at how many items are copied, and starts the item that the pass has drawn where it is less than a
+    /// queue ahead: then the pass has the copy object of the item's place. Else its looks rise.
     pub fn try_start(&self, pass: &mut Pass<J>) -> Start
         requires pass { IsPassOf self.now.table self.now.key pass.old }
         requires drawn { (n : ℕ) × (pass.old.phase ≡ phase.Drawn n) }
@@ -67,7 +71,7 @@ impl<J: Job> Pipeline<J> {
         self.line.start_item(pass)
     }
 
-    /// Leaves the worked item for the copier, or takes the baton, by one swap.
+    /// Leaves the worked item for the pass with the baton, or takes the baton where it rests at this item, by one swap.
     pub fn finish(&self, pass: &mut Pass<J>, worked: Worked) -> Handed
         requires pass { IsPassOf self.now.table self.now.key pass.old }
         requires worked { (pass.old.phase ≡ phase.Started worked) × IsSomeAnd pass.old.copy (λ x. J.has_room self.now.key.job.value x × J.stands self.now.key.job.value worked x) }
@@ -76,7 +80,8 @@ impl<J: Job> Pipeline<J> {
         self.line.finish_item(pass, worked)
     }
 
-    /// Copies the baton's item, and hands the baton on to the next item.
+    /// Copies the baton's item, advances the copied count, and passes the baton on to the next item. `Left` where that
+    /// item isn't finished: then the baton rests there.
     pub fn copy_next(&self, pass: &mut Pass<J>, job: &J) -> Next
         requires pass { IsPassOf self.now.table self.now.key pass.old }
         requires baton { (n : ℕ) × (pass.old.phase ≡ phase.Baton n) }
@@ -87,7 +92,7 @@ impl<J: Job> Pipeline<J> {
     }
 }
 
-/// What a closed pipeline gives back.
+/// What a closed pipeline gives back: the copy objects, the state, and how many items were copied.
 pub struct Ended<J: Job> {
     pub copies: Vec<J::Copy>,
     pub state: J::State,
@@ -188,7 +193,8 @@ impl<J: Job> Pipeline<J> {
         }
     }
 
-    /// Gives the copy objects and the state back, and tells how many items were copied.
+    /// Gives the copy objects back, in the vector that `new` took, and the state, and tells how many items were copied:
+    /// all that were drawn. It takes all passes, none of which may have an item or the baton. It takes no memory.
     pub fn close(self, mut passes: Vec<Pass<J>>) -> Ended<J>
         requires idle { AreIdle self.table passes.items }
         requires all { vec_len passes ≡ self.key.seats }

@@ -1,4 +1,5 @@
-//! Values that move into the slots of a table, and out of them again.
+//! All copy objects and the state at once, moved into the slots of a table and out of them again. Nothing but the
+//! list of words takes memory.
 ghost use Rattle.std.specs.Prelude.{◌≡◌, ◌<◌, ◌≤◌, ◌+◌, ◌*◌, ℕ, List, [], ◌∷◌, ◌++◌, map, reverse, vec_len, slice_index_or, slice_set, replicate, IfOk, IsTrue, take, false};
 ghost use Rattle.std.specs.Slots.{slots_items, slots_len, slots_filled, IsFull};
 ghost use Rattle.std.specs.Vec.{vec_capacity};
@@ -12,7 +13,8 @@ use crate::view::Cargo;
 use atomic_table::Closed;
 use std::alloc::{AllocError, Global};
 
-// Word 0 is the next number and word 1 the copied count; the baton rests at the ring's first place.
+// The words at first. Word 0 is the next number, word 8 the copied count, and the ring's words stand at 16, 24, ..:
+// one to a cache line of 64 bytes, as threads write them. The baton rests at the ring's first place.
 pub fn first_words(alloc: Global, queue: usize) -> Result<Vec<u64>, AllocError>
     requires { (0 < queue) × (queue ≤ 256) }
     ensures { IfOk result (λ w. w.items ≡ slice_set (replicate (8 * queue + 16) 0) 16 2) }
