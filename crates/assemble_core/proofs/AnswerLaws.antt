@@ -8,7 +8,7 @@ use Rattle.std.proofs.lemmas.Grind.{common_steps}
 use Rattle.std.proofs.lemmas.Option.{same_Some}
 use Rattle.fem_fixed.specs.Mesh.{Mesh}
 use Rattle.fem_text.specs.Outside.{Held, Reads, IsAbsent, appended, TookPrefix}
-use Rattle.ucd_read.specs.declared.fault.UcdFault.{UcdFault}
+use Rattle.ucd_read.specs.Faults.{UcdFault}
 use Rattle.ucd_read.specs.declared.fault.UcdKind.{UcdKind}
 use Rattle.ucd_read.specs.declared.fault.UcdKind.TheVariants as kinds
 use Rattle.ucd_read.specs.Ucd.{Ucd, UcdFaultAt}

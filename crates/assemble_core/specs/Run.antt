@@ -4,7 +4,7 @@ use Rattle.std.specs.declared.option.Option.{Option}
 use Rattle.std.specs.List.{list_any}
 use Rattle.fem_text.specs.Causes.{Rose}
 use Rattle.fem_text.specs.Outside.{Held, appended, TookPrefix}
-use Rattle.ucd_read.specs.declared.fault.UcdFault.{UcdFault}
+use Rattle.ucd_read.specs.Faults.{UcdFault}
 use Rattle.ucd_read.specs.declared.fault.UcdKind.{UcdKind}
 use Rattle.ucd_read.specs.declared.fault.UcdKind.TheVariants as kinds
 use Rattle.quad_mesh.specs.declared.fault.MeshFault.{MeshFault}

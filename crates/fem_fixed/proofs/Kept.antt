@@ -1,8 +1,8 @@
 -- Laws on the kept sum.
-use Rattle.std.proofs.Common.{◌≡◌, ◌∙◌, sym, ap, refl, ℕ, ◌+◌, ◌-◌, ◌*◌, ◌^◌, ◌<◌, ◌≤◌, ℤ, pos, ◌<ℤ◌, ◌+ℤ◌, arith, Bool, true, false, inl, inr, lit<, subst, to_z}
+use Rattle.std.proofs.Common.{◌≡◌, ◌∙◌, sym, ap, refl, ℕ, zero, suc, ◌+◌, ◌-◌, ◌*◌, ◌^◌, ◌<◌, ◌≤◌, ℤ, pos, ◌<ℤ◌, ◌+ℤ◌, arith, Bool, true, false, inl, inr, lit<, subst, to_z}
 use Rattle.std.specs.Prelude.{unsigned_abs, nat_lt, ◌==◌, ◌||◌, Some, None, if◌then◌else◌, slice_index_or, nat_le, ◌%◌}
 use Rattle.std.specs.List.{position_or_len, range_with_len}
-use Rattle.std.specs.Int.{w128}
+use Rattle.std.specs.Int.{w64, w128}
 use Rattle.std.specs.declared.option.Option.{Option}
 use Rattle.std.specs.Int.Count.{count_leading_zeros}
 use Rattle.std.proofs.lemmas.Nat.{leading_length, pow_pos, pow-add}
@@ -12,7 +12,7 @@ use Rattle.std.proofs.lemmas.Int.{ints, unsigned_abs-mul}
 use Rattle.std.proofs.lemmas.Bool.{cases_lt, cases_Bool}
 use Rattle.std.proofs.Math.Nat.{pow-le-pow_right}
 use Rattle.fem_fixed.specs.Rounding.{nearest}
-use Rattle.fem_fixed.specs.KeptSum.{binary_digits, kept, nearest_multiple, added}
+use Rattle.fem_fixed.specs.KeptSum.{HasDigits, binary_digits, kept, nearest_multiple, added}
 use Rattle.fem_fixed.proofs.Nearest.{nearest_size}
 use Rattle.fem_fixed.proofs.Unique.{nearest_is_near}
 
@@ -46,6 +46,43 @@ first_power n a m h low top =
     (λ k under. ap (λ b. nat_lt a (2 ^ b)) (item n k (omega arith)) ∙ not_lt a (2 ^ k) (below k m a under top))
     (λ inside. ap (λ b. nat_lt a (2 ^ b)) (item n m h) ∙ is_lt a (2 ^ m) low)
 
+-- a number is below its power of two
+power_above : (a : ℕ) → a < 2 ^ a
+power_above zero = lit< tt
+power_above (suc a) = let more = power_above a in let twice = twice_power a in omega (arith, more, twice)
+
+-- the least power of two above a number has at most that number as its exponent
+short_exponent : (a m : ℕ) → 2 ^ m ≤ 2 * a + 1 → m < suc a
+short_exponent a m top = elim (cases_lt a m) [
+  | inl h ↦ (let up : 2 ^ (a + 1) ≤ 2 ^ m = powers_rise (a + 1) m (omega arith) in
+      let twice = twice_power a in
+      absurd (omega (arith, up, twice, top, power_above a)))
+  | inr h ↦ omega arith
+]
+
+digits_are : (a m : ℕ) → a < 2 ^ m → 2 ^ m ≤ 2 * a + 1 → binary_digits a ≡ m
+unfolding binary_digits
+digits_are a m low top = first_power (suc a) a m (short_exponent a m top) low top
+
+least_power : (a m : ℕ) → 2 ^ m ≤ 2 * a + 1 → (k : ℕ) → a < 2 ^ k → m ≤ k
+least_power a m top k h = elim (cases_lt k m) [
+  | inl under ↦ (let low : 2 ^ k ≤ a = below k m a under top in absurd (omega (arith, low, h)))
+  | inr over ↦ over
+]
+
+-- the function has the property
+pub digits_counted : (a : ℕ) → HasDigits a (binary_digits a)
+digits_counted a =
+    let (m, sum, low, top) = leading_length a a (power_above a) in
+    subst (λ b. HasDigits a b) (sym (digits_are a m low top)) (record { enough = low; least = least_power a m top })
+
+-- and no other number has it
+pub one_count : (a b c : ℕ) → HasDigits a b → HasDigits a c → c ≡ b
+one_count a b c h k =
+    let up : b ≤ c = h.least c k.enough in
+    let down : c ≤ b = k.least b h.enough in
+    omega (arith, up, down)
+
 -- the length of a number of at most 80 digits, and of 2 ^ 80
 pub record IsLength (a m : ℕ) : Type 0 where
   pub low : a < 2 ^ m
@@ -60,12 +97,11 @@ short_length a m small top = elim (cases_lt 81 m) [
 ]
 
 pub is_length : (a z : ℕ) → a ≤ 2 ^ 80 → z ≡ count_leading_zeros 128 a → IsLength a (128 - z)
-unfolding binary_digits
 is_length a z small zeros =
     let (m, sum, low, top) = leading_length 128 a (omega (arith, small)) in
     let same : m ≡ 128 - z = omega (arith, sum, zeros) in
     let short : m ≤ 81 = short_length a m small top in
-    subst (λ n. IsLength a n) same (record { low = low; top = top; short = short; is = first_power 128 a m (omega (arith, short)) low top })
+    subst (λ n. IsLength a n) same (record { low = low; top = top; short = short; is = digits_are a m low top })
 
 digits_zero : (sum : ℤ) → sum ≡ kept 0 sum
 digits_zero sum = refl
@@ -117,6 +153,17 @@ pub unit_is : (p : ℕ) → p ≤ 80 → to_z w128 (1 * 2 ^ p % 3402823669209384
 unit_is p h =
     let small : 2 ^ p ≤ 2 ^ 80 = small_power p h in
     omega (arith, ints, small)
+
+-- and in 64 bits
+pub short_unit_is : (p : ℕ) → p < 62 → to_z w64 (1 * 2 ^ p % 18446744073709551616) ≡ pos (2 ^ p)
+short_unit_is p h =
+    let small : 2 ^ p ≤ 2 ^ 61 = powers_rise p 61 (omega arith) in
+    omega (arith, ints, small)
+
+pub short_unit_size : (p : ℕ) → p < 62 → unsigned_abs (pos (2 ^ p)) < 2 ^ 62
+short_unit_size p h =
+    let small : 2 ^ p ≤ 2 ^ 61 = powers_rise p 61 (omega arith) in
+    omega (arith, small)
 
 pub unit_positive : (p : ℕ) → pos 0 <ℤ pos (2 ^ p)
 unit_positive p = let some : 0 < 2 ^ p = pow_pos p in grind (arith, ints)

@@ -4,16 +4,16 @@ ghost use Rattle.fem_fixed.specs.Rounding.{IsNearest, nearest};
 use std::num::{f64_to_bits_with_nan, nearest_u64_to_f64};
 
 /// Dividends from here on are divided exactly at once.
-pub const DIVIDEND_LIMIT: u128 = 1 << 100;
+pub(crate) const DIVIDEND_LIMIT: u128 = 1 << 100;
 
 /// The same for divisors.
-pub const DIVISOR_LIMIT: i128 = 1 << 62;
+pub(crate) const DIVISOR_LIMIT: i128 = 1 << 62;
 
 /// The whole number nearest to n / d; of two that are equally near, the even one.
 /// This is `rdiv` by one long division.
 #[cold]
 #[inline(never)]
-pub fn exact(n: i128, d: i128) -> i128
+pub(crate) fn exact(n: i128, d: i128) -> i128
     requires { pos 0 <ℤ d }
     ensures near { IsNearest n d result }
     ensures value { result ≡ nearest n d }
@@ -33,7 +33,7 @@ pub fn exact(n: i128, d: i128) -> i128
 
 /// Whether this quotient is the nearest one: less than half a divisor off, or half of one and even.
 #[inline(always)]
-pub fn is_certain(n: i128, d: i64, quotient: i64) -> bool
+pub(crate) fn is_certain(n: i128, d: i64, quotient: i64) -> bool
     requires n { unsigned_abs n < 2 ^ 100 }
     requires positive { pos 0 <ℤ d }
     requires d { unsigned_abs d < 2 ^ 62 }
@@ -47,10 +47,24 @@ pub fn is_certain(n: i128, d: i64, quotient: i64) -> bool
 
 /// A number near n / d: nothing is promised of it.
 #[inline(always)]
-pub fn float_guess(n: i128, d: u64) -> i64
+pub(crate) fn float_guess(n: i128, d: u64) -> i64
     requires { unsigned_abs n < 2 ^ 100 }
 {
     whole_of(float_of(n) / nearest_u64_to_f64(d))
+}
+
+/// A number near n / 2^power: nothing is promised of it. Half the divisor less one, and one more where the
+/// quotient rounded down is odd, bring a tie to the even number. The low 63 binary digits of the quotient
+/// are taken, with a shift so that a negative one has them too.
+#[inline(always)]
+pub(crate) fn shift_guess(n: i128, power: u32) -> i64
+    requires { power < 62 }
+{
+    let half = (1_i128 << power) >> 1;
+    let floor = n >> power;
+    let raised = n.wrapping_add(half).wrapping_add(floor & 1).wrapping_sub(1);
+    let quotient = raised >> power;
+    (quotient.wrapping_add(1 << 62) & 0x7fff_ffff_ffff_ffff) as i64 - (1 << 62)
 }
 
 /// A float near n: nothing is promised of it.

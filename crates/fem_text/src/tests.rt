@@ -1,6 +1,6 @@
 use crate::{
-    DiskStore, Failed, MemorySink, MemoryStore, Sink, StdSink, Store, StoreFault, TextLines,
-    put_text,
+    DiskStore, Failed, MemorySink, MemoryStore, Sink, StdSink, Store, StoreFault, TextFault,
+    TextLines, WordLines, at_line, exactly, id_at, number_at, put_text,
 };
 use std::fs;
 use std::test::Fail;
@@ -74,6 +74,34 @@ fn lines_and_words(rt: HostRuntime) -> Result<(), Fail> {
     assert_eq!(rt; last.bytes, b"last".as_slice());
     assert!(rt; lines.next().is_none());
     assert!(rt; TextLines::new(b"").next().is_none());
+    Ok(())
+}
+
+#[test]
+fn lines_that_count_and_their_words(rt: HostRuntime) -> Result<(), Fail> {
+    let mut lines = WordLines::new(b"\n# none\n7 -0.5\n \n", Some(b'#'));
+    let line = lines.next_line().ok_or("no line")?;
+    assert_eq!(rt; exactly(2, 'w', &line), Ok(()));
+    assert_eq!(rt; exactly(3, 'w', &line), Err('w'));
+    assert_eq!(rt; id_at('i', &line, 0), Ok(7));
+    assert_eq!(rt; number_at('n', 65_536, &line, 1), Ok(-32_768));
+    assert_eq!(rt; number_at('n', 32_767, &line, 1), Err('n'));
+    assert_eq!(rt;
+        at_line(id_at('i', &line, 1), &line).err(),
+        Some(TextFault { kind: 'i', line: 3 })
+    );
+    assert_eq!(rt;
+        lines.expect('e').err(),
+        Some(TextFault { kind: 'e', line: 5 })
+    );
+    assert!(rt; lines.next_line().is_none());
+    let mut behind = WordLines::new(b"% one\n\n% two\n 3 %\n% four\n", None);
+    let third = behind
+        .expect_behind_comments(b'%', 'e')
+        .ok()
+        .ok_or("no line")?;
+    assert_eq!(rt; third.number, 4);
+    assert_eq!(rt; behind.expect('e').ok().ok_or("no line")?.number, 5);
     Ok(())
 }
 

@@ -1,15 +1,13 @@
 ghost use Rattle.std.specs.Prelude.{◌≡◌, ◌≤◌, ◌^◌, IfOk, IfErr, OnOk};
 ghost use Rattle.fem_text.specs.Lines.{words_of};
 ghost use Rattle.ucd_read.specs.Header.{header_line};
-ghost use Rattle.ucd_read.specs.Lines.{behind, from_header};
-ghost use Rattle.ucd_read.specs.Reading.{IsFault};
+ghost use Rattle.fem_text.specs.WordLines.{behind};
+ghost use Rattle.ucd_read.specs.Comments.{from_header};
+ghost use Rattle.fem_text.specs.Reading.{IsFault};
 ghost use Rattle.ucd_read.specs.Ucd.{HasHeader};
 
-use crate::fault::at_line;
-use crate::lines::WordLines;
-use crate::words::{exactly, id_at};
 use crate::{UcdFault, UcdKind};
-use fem_text::TextLine;
+use fem_text::{TextLine, WordLines, at_line, exactly, id_at};
 
 const NODE_LIMIT: u32 = 1 << 20;
 
@@ -28,9 +26,9 @@ pub(crate) fn read_header(lines: &mut WordLines) -> Result<Header, UcdFault>
     ensures nodes { IfOk result (λ header. header.nodes ≤ 2 ^ 20) }
     ensures cells { IfOk result (λ header. header.cells ≤ 2 ^ 21) }
     ensures lines { OnOk result (lines.new ≡ behind 1 (from_header lines.old)) }
-    ensures err { IfErr result (λ fault. IsFault header_line (from_header lines.old) 0 fault.kind fault.line) }
+    ensures err { IfErr result (λ fault. IsFault UcdKind.TooFew header_line (from_header lines.old) 0 fault.kind fault.line) }
 {
-    let line = lines.expect_header()?;
+    let line = lines.expect_behind_comments(b'#', UcdKind::TooFew)?;
     at_line(header_line(&line), &line)
 }
 

@@ -4,7 +4,6 @@
 mod cells;
 mod fault;
 mod header;
-mod lines;
 mod nodes;
 mod reader;
 #[cfg(test)]
