@@ -174,53 +174,73 @@ fn cells_meet(a: &[Face; 4], b: &[Face; 4]) -> bool {
     a.iter().any(|face| b.iter().any(|other| meet(face, other)))
 }
 
-/// What lies at a face, sought among all faces of all other cells; every boundary edge has the id 0.
+/// What is known of a face, while the faces of other cells are gone through.
+#[derive(Clone, Copy)]
+struct Sought {
+    side: ActiveSide,
+    halves: [Option<(u32, u8)>; 2],
+}
+
+/// What is known after one face more.
+fn looked(known: Sought, this: &Face, there: &Face, cell: u32, face: u8) -> Sought {
+    let [first, last] = known.halves;
+    if same(this.ends, there.ends) {
+        return Sought {
+            side: ActiveSide::Equal { cell, face },
+            halves: known.halves,
+        };
+    }
+    if let Some(half) = half(this, there) {
+        return Sought {
+            side: ActiveSide::Coarser { cell, face, half },
+            halves: known.halves,
+        };
+    }
+    match half(there, this) {
+        Some(0) => Sought {
+            side: known.side,
+            halves: [Some((cell, face)), last],
+        },
+        Some(_) => Sought {
+            side: known.side,
+            halves: [first, Some((cell, face))],
+        },
+        None => known,
+    }
+}
+
+/// What is known after the faces of one cell more.
+fn looked_at_cell(known: Sought, this: &Face, row: &[Face; 4], cell: u32) -> Sought {
+    let [left, right, bottom, top] = row;
+    let known = looked(known, this, left, cell, 0);
+    let known = looked(known, this, right, cell, 1);
+    let known = looked(known, this, bottom, cell, 2);
+    looked(known, this, top, cell, 3)
+}
+
+/// What lies at a face, sought among the faces of all other cells; every boundary edge has the id 0.
 pub fn side(faces: &[[Face; 4]], cell: u32, face: u8) -> ActiveSide
     requires cell { cell < length faces.now }
     requires face { face < 4 }
     requires few { length faces.now < 2 ^ 32 }
 {
     let this = faces[cell as usize][face as usize];
-    let mut side = ActiveSide::Boundary(0);
-    let mut halves = ([0, 0], [0, 0]);
+    let mut known = Sought {
+        side: ActiveSide::Boundary(0),
+        halves: [None, None],
+    };
     for other in 0..faces.len() as u32 {
-        for place in 0..4u8 {
-            let there = faces[other as usize][place as usize];
-            if other == cell {
-                continue;
-            }
-            if same(this.ends, there.ends) {
-                side = ActiveSide::Equal {
-                    cell: other,
-                    face: place,
-                };
-            }
-            if let Some(half) = half(&this, &there) {
-                side = ActiveSide::Coarser {
-                    cell: other,
-                    face: place,
-                    half,
-                };
-            }
-            if half(&there, &this) == Some(0) {
-                halves = ([other, halves.0[1]], [place, halves.1[1]]);
-            }
-            if half(&there, &this) == Some(1) {
-                halves = ([halves.0[0], other], [halves.1[0], place]);
-                side = ActiveSide::Finer {
-                    cells: [0, 0],
-                    faces: [0, 0],
-                };
-            }
+        if other != cell {
+            known = looked_at_cell(known, &this, &faces[other as usize], other);
         }
     }
-    if let ActiveSide::Finer { .. } = side {
-        return ActiveSide::Finer {
-            cells: halves.0,
-            faces: halves.1,
-        };
+    match known.halves {
+        [Some(first), Some(last)] => ActiveSide::Finer {
+            cells: [first.0, last.0],
+            faces: [first.1, last.1],
+        },
+        _ => known.side,
     }
-    side
 }
 
 /// The cells of a step: the asked cells, and with each the cells one level lower that meet it, round and round until
@@ -238,14 +258,31 @@ pub fn least_set(
         set.push(asked.iter().any(|asked| *asked as usize == cell))?;
     }
     for _ in 0..12u8 {
-        for cell in 0..paths.len() {
-            for lower in 0..paths.len() {
-                let meets = cells_meet(&faces[cell], &faces[lower]);
-                if set[cell] && paths[lower].level as u32 + 1 == paths[cell].level as u32 && meets {
-                    set[lower] = true;
-                }
-            }
+        for cell in 0..set.len() {
+            add_lower(paths, faces, &mut set, cell);
         }
     }
     Ok(set)
+}
+
+/// Adds the cells one level lower that meet a cell of the set.
+fn add_lower(paths: &[Path], faces: &[[Face; 4]], set: &mut [bool], cell: usize)
+    requires faces { length faces.now ≡ length paths.now }
+    requires set { length set.old ≡ length paths.now }
+    requires cell { cell < length paths.now }
+    ensures { length set.new ≡ length set.old }
+{
+    if !set[cell] {
+        return;
+    }
+    for lower in 0..paths.len() {
+        if is_lower(&paths[lower], &paths[cell]) && cells_meet(&faces[cell], &faces[lower]) {
+            set[lower] = true;
+        }
+    }
+}
+
+/// Whether a cell is one level lower than another.
+fn is_lower(lower: &Path, upper: &Path) -> bool {
+    upper.level > 0 && lower.level == upper.level - 1
 }
