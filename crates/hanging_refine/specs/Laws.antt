@@ -27,6 +27,8 @@ pub record IsCoveredOnce (forest : RefinedMesh) (cell face : ℕ) : Type 0 where
 
 -- each face of an active cell is on the boundary and meets none, or it meets just one, which is equal to it or
 -- of which it is a half, or it meets just two, which are its halves; and it is so in one way only
+abbrev pub AreCoveredOnce : RefinedMesh → Type 0
+AreCoveredOnce forest = (cell face : ℕ) → cell < length forest.cells → face < 4 → IsCoveredOnce forest cell face
+
 abbrev pub FacesAreCoveredOnce : Type 0
-FacesAreCoveredOnce =
-    (forest : RefinedMesh) → IsGrown forest → (cell face : ℕ) → cell < length forest.cells → face < 4 → IsCoveredOnce forest cell face
+FacesAreCoveredOnce = (forest : RefinedMesh) → IsGrown forest → AreCoveredOnce forest

@@ -6,6 +6,7 @@ ghost use Rattle.hanging_refine.specs.Points.{cell_points};
 ghost use Rattle.hanging_refine.specs.Sides.{IsSideOf, MeetsOnly};
 ghost use Rattle.hanging_refine.specs.Order.{IsInOrder};
 ghost use Rattle.hanging_refine.specs.Grown.{IsGrown};
+ghost use Rattle.hanging_refine.specs.Laws.{AreCoveredOnce};
 ghost use Rattle.hanging_refine.specs.Numbered.{AreNamedBy};
 ghost use Rattle.hanging_refine.specs.Refinement.{IsRefinedBy, IsRefusal};
 ghost use Rattle.hanging_refine.specs.declared.fault.RefineFault.TheVariants.{NoMemory as Memory};
@@ -66,11 +67,14 @@ impl Forest {
 
     /// How many active cells there are. They are numbered by coarse cell, and then by the child numbers
     /// from there.
+    ///
+    /// Each face of an active cell is covered in exactly one of the four ways of [`ActiveSide`].
     pub fn cells(&self) -> u32
         ensures count { result ≡ length self.now.cells }
         ensures small { result ≤ 2 ^ 20 }
         ensures ordered { IsInOrder self.now }
         ensures grown { IsGrown self.now }
+        ensures covered { AreCoveredOnce self.now }
     {
         self.cells.len() as u32
     }
