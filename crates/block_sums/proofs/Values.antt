@@ -1,0 +1,94 @@
+-- Numbers of the code that fit their types, and what couples with what.
+use Rattle.std.proofs.Common.{◌≡◌, ◌∙◌, sym, ap, refl, subst, ℕ, ◌<◌, ◌≤◌, ◌^◌, ℤ, pos, Bool, true, false, List, [], ◌∷◌, ◌++◌, length, map, FitsSigned, w64, lit<, arith, Some, None, slice_index, slice_index_or}
+use Rattle.std.specs.Prelude.{unsigned_abs}
+use Rattle.std.specs.Int.{w128}
+use Rattle.std.specs.List.{All, flat_map}
+use Rattle.std.specs.declared.option.Option.{Option}
+use Rattle.std.proofs.lemmas.Int.{fits_signed_from_abs}
+use Rattle.std.proofs.lemmas.List.{get_or_default, append-nil}
+use Rattle.fem_fixed.proofs.Sizes.{size_fits}
+use Rattle.affine_constraints.specs.declared.term.Term.{Term}
+use Rattle.affine_constraints.specs.Lines.{AffineLine, Lines, IsTerm}
+use Rattle.local_blocks.specs.Blocks.{LocalBlock}
+use Rattle.serial_sum.specs.declared.part.Contribution.{Contribution}
+use Rattle.serial_sum.specs.declared.part.Target.TheVariants.{Column, RightSide}
+use Rattle.block_sums.specs.Masters.{masters, masters_by, constant_of, itself, Couples, Holds, IsMasterFor}
+use Rattle.block_sums.specs.Contributions.{to, column_terms, constant_terms, master_terms, row_terms, own_by, own_terms, dof_at, entry_at}
+use Rattle.block_sums.specs.Shares.{entry_share}
+use Rattle.block_sums.specs.Adding.{CouplesAll, IsWeight}
+
+pub fits_weight : (a : ℤ) → unsigned_abs a ≤ 2 ^ 31 → FitsSigned w64 a
+fits_weight a h = fits_signed_from_abs w64 a (omega (arith, h))
+
+pub fits_share : (a : ℤ) → unsigned_abs a ≤ 2 ^ 100 → FitsSigned w128 a
+fits_share a h = size_fits a (2 ^ 100) h (lit< tt)
+
+-- a free dof is its own master
+pub free_masters : (lines : Lines) (dof : ℕ) → lines dof ≡ None → masters lines dof ≡ itself dof ∷ []
+unfolding masters
+free_masters lines dof e = ap (λ l. masters_by l dof) e
+
+pub line_masters : (lines : Lines) (dof : ℕ) (line : AffineLine) → lines dof ≡ Some line → masters lines dof ≡ line.terms
+unfolding masters
+line_masters lines dof line e = ap (λ l. masters_by l dof) e
+
+pub free_column : (lines : Lines) (master : Term) (entry : ℤ) (dof : ℕ) → lines dof ≡ None → to master.dof (Column dof) (entry_share master.weight entry (pos 65536)) ∷ [] ≡ column_terms lines master entry dof
+unfolding masters constant_of
+free_column lines master entry dof e = rw e refl
+
+pub line_column : (lines : Lines) (master : Term) (entry : ℤ) (dof : ℕ) (line : AffineLine) → lines dof ≡ Some line →
+    map (λ (other : Term). to master.dof (Column other.dof) (entry_share master.weight entry other.weight)) line.terms ++ constant_terms master.dof master.weight entry line.constant ≡ column_terms lines master entry dof
+unfolding masters constant_of
+line_column lines master entry dof line e = rw e refl
+
+pub free_row : (lines : Lines) (block : LocalBlock) (i dof : ℕ) → dof ≡ dof_at block i → lines dof ≡ None → master_terms lines block i (itself dof) ≡ row_terms lines block i
+unfolding row_terms masters
+free_row lines block i dof d e =
+    let at : lines (dof_at block i) ≡ None = ap lines (sym d) ∙ e in
+    rw at (ap (λ n. master_terms lines block i (itself n)) d ∙ sym (append-nil (master_terms lines block i (itself (dof_at block i)))) ∙ sym (append-nil (master_terms lines block i (itself (dof_at block i)) ++ [])))
+
+pub line_row : (lines : Lines) (block : LocalBlock) (i dof : ℕ) (line : AffineLine) → dof ≡ dof_at block i → lines dof ≡ Some line →
+    flat_map (master_terms lines block i) line.terms ++ own_terms dof (unsigned_abs (entry_at block i i)) line.constant ≡ row_terms lines block i
+unfolding row_terms masters
+line_row lines block i dof line d e =
+    let at : lines (dof_at block i) ≡ Some line = ap lines (sym d) ∙ e in
+    rw at (ap (λ n. flat_map (master_terms lines block i) line.terms ++ own_terms n (unsigned_abs (entry_at block i i)) line.constant) d)
+
+-- a free column's dof couples with the row
+pub free_couples : (pattern : List (List ℕ)) (lines : Lines) (row dof : ℕ) → lines dof ≡ None → CouplesAll pattern row (masters lines dof) → Couples pattern row dof
+free_couples pattern lines row dof e h =
+    let all : CouplesAll pattern row (itself dof ∷ []) = subst (CouplesAll pattern row) (free_masters lines dof e) h in all 0 (itself dof) (lit< tt)
+
+pub line_couples : (pattern : List (List ℕ)) (lines : Lines) (row dof : ℕ) (line : AffineLine) → lines dof ≡ Some line → CouplesAll pattern row (masters lines dof) → CouplesAll pattern row line.terms
+line_couples pattern lines row dof line e h = subst (CouplesAll pattern row) (line_masters lines dof line e) h
+
+pub term_weights : (size : ℕ) (terms : List Term) → All (IsTerm size) terms → All IsWeight terms
+term_weights size terms h k d l = (h k d l).weight
+
+-- a master of one of the dofs
+pub master_for : (pattern : List (List ℕ)) (lines : Lines) (dofs : List ℕ) (i k : ℕ) (d : Term) → Holds pattern lines dofs → i < length dofs → k < length (masters lines (slice_index dofs i)) →
+    IsMasterFor pattern lines dofs (slice_index_or (masters lines (slice_index dofs i)) k d)
+master_for pattern lines dofs i k d h a b = record {
+  row = (h.masters i 0 a i 0 a k d b k d b).within;
+  others = λ j e l. λ q t m. h.masters i 0 a j e l k d b q t m;
+}
+
+pub free_master_for : (pattern : List (List ℕ)) (lines : Lines) (dofs : List ℕ) (i dof : ℕ) → Holds pattern lines dofs → i < length dofs → dof ≡ slice_index dofs i → lines dof ≡ None → IsMasterFor pattern lines dofs (itself dof)
+free_master_for pattern lines dofs i dof h a d e =
+    let are : masters lines (slice_index dofs i) ≡ itself dof ∷ [] = ap (masters lines) (sym d) ∙ free_masters lines dof e in
+    let some : 0 < length (masters lines (slice_index dofs i)) = rw are (lit< tt) in
+    let P : List Term → Type 0 = λ ms. IsMasterFor pattern lines dofs (slice_index_or ms 0 (itself 0)) in
+    subst P are (master_for pattern lines dofs i 0 (itself 0) h a some)
+
+pub line_masters_for : (pattern : List (List ℕ)) (lines : Lines) (dofs : List ℕ) (i dof : ℕ) (line : AffineLine) → Holds pattern lines dofs → i < length dofs → dof ≡ slice_index dofs i → lines dof ≡ Some line →
+    All (IsMasterFor pattern lines dofs) line.terms
+line_masters_for pattern lines dofs i dof line h a d e k t b =
+    let are : masters lines (slice_index dofs i) ≡ line.terms = ap (masters lines) (sym d) ∙ line_masters lines dof line e in
+    let P : List Term → Type 0 = λ ms. IsMasterFor pattern lines dofs (slice_index_or ms k t) in
+    subst P are (master_for pattern lines dofs i k t h a (rw are b))
+
+pub own_couples : (pattern : List (List ℕ)) (lines : Lines) (dofs : List ℕ) (i dof : ℕ) → Holds pattern lines dofs → i < length dofs → dof ≡ slice_index dofs i → Couples pattern dof dof
+own_couples pattern lines dofs i dof h a d = let P : ℕ → Type 0 = λ n. Couples pattern n n in subst P (sym d) (h.own i 0 a)
+
+pub same_term : (terms : List Term) (k : ℕ) (d e : Term) → k < length terms → slice_index_or terms k d ≡ slice_index_or terms k e
+same_term terms k d e h = get_or_default terms k d e h

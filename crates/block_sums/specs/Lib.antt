@@ -1,0 +1,4 @@
+pub mod Shares
+pub mod Masters
+pub mod Contributions
+pub mod Adding

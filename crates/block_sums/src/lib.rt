@@ -1,0 +1,10 @@
+//! What a block adds to the rows of a system: its local matrix and its load, spread over the masters of its
+//! dofs, as `AffineConstraints::distribute_local_to_global` of deal.II does it.
+#![tactic(auto)]
+
+mod adding;
+mod shares;
+mod system;
+
+pub use adding::add_block;
+pub use system::System;

@@ -1,0 +1,105 @@
+-- The block of a visit, and the blocks of a cell.
+use Rattle.std.specs.Prelude.{ℕ, List, [], ◌∷◌, ◌++◌, map, slice_index, slice_index_or, ℤ, Some, None, Ok, Err}
+use Rattle.std.specs.declared.option.Option.{Option}
+use Rattle.std.specs.declared.result.Result.{Result}
+use Rattle.fem_fixed.specs.declared.mesh.Point.{Point}
+use Rattle.quad_mesh.specs.Faces.{quad_at}
+use Rattle.quad_mesh.specs.Geometry.{point_at}
+use Rattle.corner_names.specs.Cells.{face_start, face_end}
+use Rattle.hanging_refine.specs.Refined.{RefinedMesh, active_at, cell_at}
+use Rattle.hanging_refine.specs.Points.{cell_points}
+use Rattle.dof_numbers.specs.Dofs.{Numbering}
+use Rattle.problem_read.specs.Entries.{ProblemParts}
+use Rattle.problem_read.specs.LookUps.{diffusion_on, source_on, robin_on, penalty_in}
+use Rattle.fixed_q1.specs.declared.fault.LocalFault.{LocalFault}
+use Rattle.fixed_q1.specs.declared.places.Part.{Part}
+use Rattle.fixed_q1.specs.declared.places.Part.TheVariants.{Whole, Half0, Half1}
+use Rattle.fixed_q1.specs.LocalForm.{LocalForm, zero_matrix, zero_load}
+use Rattle.fixed_q1.specs.CellForm.{cell_form}
+use Rattle.fixed_q1.specs.BoundaryForm.{boundary_form, end_numbers}
+use Rattle.fixed_q1.specs.JumpForm.{jump_form}
+use Rattle.fixed_q1.specs.Places.{reference_place}
+use Rattle.local_blocks.specs.Blocks.{LocalBlock}
+use Rattle.mesh_visits.specs.declared.flags.Flags.{Flags}
+use Rattle.mesh_visits.specs.declared.visit.Visit.{Visit}
+use Rattle.mesh_visits.specs.declared.visit.Visit.TheVariants.{Cell as OnCell, Boundary as OnBoundary, Interior as OnPart}
+use Rattle.mesh_visits.specs.Visits.{visits_of}
+
+-- what blocks are made of
+pub record Given : Type 0 where
+  pub forest : RefinedMesh
+  pub dofs : Numbering
+  pub problem : ProblemParts
+
+abbrev pub material_of : Given → ℕ → ℕ
+material_of given cell = (quad_at given.forest.mesh.cells (active_at given.forest cell).coarse).material
+
+-- the vertices of a cell, and their dofs
+abbrev pub points_of : Given → ℕ → List Point
+points_of given cell = cell_points given.forest.mesh (cell_at given.forest cell)
+
+abbrev pub dofs_of : Given → ℕ → List ℕ
+dofs_of given cell = slice_index_or given.dofs.cells cell []
+
+-- the two ends of a face, and their dofs
+abbrev pub end_points : Given → ℕ → ℕ → List Point
+end_points given cell face = point_at (points_of given cell) (face_start face) ∷ point_at (points_of given cell) (face_end face) ∷ []
+
+abbrev pub end_dofs : Given → ℕ → ℕ → List ℕ
+end_dofs given cell face = slice_index (dofs_of given cell) (face_start face) ∷ slice_index (dofs_of given cell) (face_end face) ∷ []
+
+-- the ends of a part of an interior face: those of the face that is the part whole, of the cell here where both are
+abbrev pub part_ends : Given → ℕ → ℕ → ℕ → ℕ → Part → List Point
+part_ends given cell face other other_face Whole = end_points given cell face
+part_ends given cell face other other_face Half0 = end_points given other other_face
+part_ends given cell face other other_face Half1 = end_points given other other_face
+
+-- the form of a boundary face: zeros where nothing is set on its id
+abbrev pub face_form : Option (ℤ × ℤ) → List Point → LocalForm
+face_form None ends = record { matrix = zero_matrix end_numbers; load = zero_load end_numbers }
+face_form (Some robin) ends = boundary_form ends robin.0 robin.1
+
+-- the dofs of a visit of a cell; a dof may stand twice
+abbrev pub visit_dofs : Given → ℕ → Visit → List ℕ
+visit_dofs given cell OnCell = dofs_of given cell
+visit_dofs given cell (OnBoundary face id) = end_dofs given cell face
+visit_dofs given cell (OnPart face other other_face here there) = dofs_of given cell ++ dofs_of given other
+
+abbrev pub own_form : Given → ℕ → Result LocalForm LocalFault
+own_form given cell = cell_form (points_of given cell) (diffusion_on given.problem (material_of given cell)) (source_on given.problem (material_of given cell))
+
+abbrev pub part_form : Given → ℕ → ℕ → ℕ → ℕ → Part → Part → Result LocalForm LocalFault
+part_form given cell face other other_face here there =
+    jump_form (points_of given cell) (reference_place face here) (points_of given other) (reference_place other_face there) (part_ends given cell face other other_face here) (penalty_in given.problem)
+
+-- the local form of a visit, or its fault
+abbrev pub visit_form : Given → ℕ → Visit → Result LocalForm LocalFault
+visit_form given cell OnCell = own_form given cell
+visit_form given cell (OnBoundary face id) = Ok (face_form (robin_on given.problem id) (end_points given cell face))
+visit_form given cell (OnPart face other other_face here there) = part_form given cell face other other_face here there
+
+abbrev pub with_dofs : List ℕ → Result LocalForm LocalFault → Result LocalBlock LocalFault
+with_dofs dofs (Ok form) = Ok (record { dofs = dofs; form = form })
+with_dofs dofs (Err fault) = Err fault
+
+-- the block of a visit of a cell, or the fault of its local form
+unfoldable pub block_of : Given → ℕ → Visit → Result LocalBlock LocalFault
+block_of given cell visit = with_dofs (visit_dofs given cell visit) (visit_form given cell visit)
+
+abbrev pub in_front : Result LocalBlock LocalFault → Result (List LocalBlock) LocalFault → Result (List LocalBlock) LocalFault
+in_front (Ok block) (Ok blocks) = Ok (block ∷ blocks)
+in_front (Ok block) (Err fault) = Err fault
+in_front (Err fault) blocks = Err fault
+
+-- all blocks, or the first fault
+abbrev pub all_blocks : List (Result LocalBlock LocalFault) → Result (List LocalBlock) LocalFault
+all_blocks [] = Ok []
+all_blocks (block ∷ blocks) = in_front block (all_blocks blocks)
+
+-- the blocks of these visits of a cell, in order, or the fault of the first visit that has one
+unfoldable pub blocks_of : Given → ℕ → List Visit → Result (List LocalBlock) LocalFault
+blocks_of given cell visits = all_blocks (map (block_of given cell) visits)
+
+-- the blocks of a cell
+abbrev pub cell_blocks : Flags → Given → ℕ → Result (List LocalBlock) LocalFault
+cell_blocks flags given cell = blocks_of given cell (visits_of flags given.forest cell)

@@ -1,0 +1,11 @@
+//! The blocks that the visits of a cell give: the dofs and the local form of the cell itself, of its faces at
+//! the boundary and of its parts of interior faces.
+#![tactic(auto)]
+
+mod copy;
+mod fill;
+mod setting;
+
+pub use copy::{CellCopy, CellScratch};
+pub use fill::fill_blocks;
+pub use setting::Setting;

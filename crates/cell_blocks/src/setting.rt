@@ -1,0 +1,64 @@
+ghost use Rattle.std.specs.Prelude.{◌≡◌, ◌<◌, All, length};
+ghost use Rattle.fem_fixed.specs.Mesh.{IsWithinReach};
+ghost use Rattle.corner_names.specs.Cells as cells;
+ghost use Rattle.cell_blocks.specs.Blocks as blocks;
+ghost use Rattle.cell_blocks.specs.Views.{given};
+ghost use Rattle.dof_numbers.specs.Dofs.{IsNumberingOf};
+
+use dof_numbers::Dofs;
+use fem_fixed::Point;
+use hanging_refine::Forest;
+use problem_read::Problem;
+
+/// What blocks are made of: a refined mesh, its dofs, and the coefficients of a problem.
+pub struct Setting<'a> {
+    pub forest: &'a Forest,
+    pub dofs: &'a Dofs,
+    pub problem: &'a Problem,
+}
+
+impl Setting<'_> {
+    /// The points of the two ends of a face of a cell.
+    pub fn end_points(&self, cell: u32, face: u8) -> [Point; 2]
+        requires cell { cell < length self.now.forest.now.cells }
+        ensures value { result ≡ blocks.end_points (given self.now) cell face }
+        ensures reach { All IsWithinReach result }
+    {
+        let points = self.forest.points(cell);
+        [points[first_vertex(face)], points[last_vertex(face)]]
+    }
+
+    /// The dofs of the two ends of a face of a cell.
+    pub fn end_dofs(&self, cell: u32, face: u8) -> [u32; 2]
+        requires numbered { IsNumberingOf self.now.forest.now self.now.dofs.now }
+        requires cell { cell < length self.now.forest.now.cells }
+        ensures { result ≡ blocks.end_dofs (given self.now) cell face }
+    {
+        let dofs = self.dofs.of_cell(cell);
+        [dofs[first_vertex(face)], dofs[last_vertex(face)]]
+    }
+}
+
+/// The vertex at which a face starts.
+fn first_vertex(face: u8) -> usize
+    ensures value { result ≡ cells.face_start face }
+    ensures small { result < 4 }
+{
+    match face {
+        1 => 1,
+        3 => 2,
+        _ => 0,
+    }
+}
+
+/// The vertex at which a face ends.
+fn last_vertex(face: u8) -> usize
+    ensures value { result ≡ cells.face_end face }
+    ensures small { result < 4 }
+{
+    match face {
+        0 => 2,
+        2 => 1,
+        _ => 3,
+    }
+}

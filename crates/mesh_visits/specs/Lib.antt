@@ -1,0 +1,5 @@
+pub mod Meeting
+pub mod Visits
+pub mod SideVisits
+pub mod Within
+pub mod Laws
