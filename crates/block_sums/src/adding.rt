@@ -20,17 +20,22 @@ use sparsity::Rows;
 /// A free dof's weight as its own master: one, in ticks.
 const UNIT_WEIGHT: i64 = 65_536;
 
-/// Adds the contributions of a block to the rows, one after another. A sum above 2^80 in size isn't added, and
-/// the least row with such a sum is given.
-pub fn add_block(rows: &mut Rows, system: &System, block: &Block) -> Option<u32>
+/// Adds the contributions of a block to the rows, one after another. A sum above 2^80 in size isn't added. The
+/// least row with such a sum so far comes in and goes out, so that the blocks of a cell are added one by one.
+pub fn add_block(
+    rows: &mut Rows,
+    system: &System,
+    block: &Block,
+    least: Option<u32>,
+) -> Option<u32>
     requires digits { system.now.digits ≤ 64 }
     requires fits { FitsRows system.now.pattern.now rows.old }
     requires block { IsBlock (seen block.now) }
     requires dofs { All (λ dof. dof < length system.now.closed.now) (seen block.now).dofs }
     requires holds { Holds system.now.pattern.now (lines_in system.now.closed.now) (seen block.now).dofs }
-    ensures { Adds system.now rows.old None rows.new result (contributions (lines_in system.now.closed.now) (seen block.now)) }
+    ensures { Adds system.now rows.old least rows.new result (contributions (lines_in system.now.closed.now) (seen block.now)) }
 {
-    let mut least = None;
+    let mut least = least;
     for i in 0..block.dofs().len() {
         least = add_row(rows, system, block, i, least);
     }

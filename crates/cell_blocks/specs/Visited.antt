@@ -1,13 +1,13 @@
 -- Visits that can be made.
-use Rattle.std.specs.Prelude.{◌≡◌, ℕ, ◌<◌, ◌≤◌, List, [], All, length, take, map, Ok, Err}
+use Rattle.std.specs.Prelude.{◌≡◌, ℕ, ◌<◌, ◌≤◌, List, [], ◌∷◌, ◌++◌, All, length, take, map, Ok, Err}
 use Rattle.std.specs.declared.option.Option.{Option}
 use Rattle.std.specs.declared.option.Option.TheVariants.{Some, None}
 use Rattle.std.specs.declared.result.Result.{Result}
 use Rattle.fixed_q1.specs.declared.fault.LocalFault.{LocalFault}
 use Rattle.local_blocks.specs.declared.block.Block.{Block}
 use Rattle.local_blocks.specs.Blocks.{LocalBlock, seen, IsBlock}
-use Rattle.dof_numbers.specs.Dofs.{IsNumberingOf}
-use Rattle.cell_blocks.specs.Blocks.{Given}
+use Rattle.cell_blocks.specs.Blocks.{Given, blocks_of}
+use Rattle.mesh_visits.specs.declared.visit.Visit.{Visit}
 
 -- the blocks in use, or the fault
 abbrev pub seen_copy : Option LocalFault → ℕ → List Block → Result (List LocalBlock) LocalFault
@@ -19,3 +19,28 @@ abbrev pub IsBlockResult : Result LocalBlock LocalFault → Result Block LocalFa
 IsBlockResult (Ok block) (Ok made) = (seen made ≡ block) × IsBlock block
 IsBlockResult (Err fault) (Err told) = told ≡ fault
 IsBlockResult _ _ = ⊥
+
+-- the copy object has blocks, and room for one more
+abbrev pub HasRoom : Result (List LocalBlock) LocalFault → Type 0
+HasRoom (Ok blocks) = length blocks < 9
+HasRoom (Err fault) = ⊥
+
+abbrev pub with_block : Result (List LocalBlock) LocalFault → LocalBlock → Result (List LocalBlock) LocalFault
+with_block (Ok blocks) block = Ok (blocks ++ block ∷ [])
+with_block (Err fault) block = Err fault
+
+abbrev pub fault_in : Result (List LocalBlock) LocalFault → Option LocalFault
+fault_in (Ok blocks) = None
+fault_in (Err fault) = Some fault
+
+-- the blocks; none after a fault
+abbrev pub blocks_in : Result (List LocalBlock) LocalFault → List LocalBlock
+blocks_in (Ok blocks) = blocks
+blocks_in (Err fault) = []
+
+-- the blocks of the first visits
+pub record IsSoFar (given : Given) (cell : ℕ) (visits : List Visit) (count : ℕ) (copy : Result (List LocalBlock) LocalFault) : Type 0 where
+  pub blocks : List LocalBlock
+  pub are : copy ≡ Ok blocks
+  pub count_is : length blocks ≡ count
+  pub first : blocks_of given cell (take count visits) ≡ Ok blocks

@@ -1,5 +1,6 @@
-ghost use Rattle.std.specs.Prelude.{◌≡◌, ◌<◌, ◌++◌, ◌∷◌, [], ℕ, List, length, Ok, Err, IfOk};
-ghost use Rattle.local_blocks.specs.Blocks.{LocalBlock, seen, IsBlock};
+ghost use Rattle.std.specs.Prelude.{◌≡◌, ◌<◌, [], length, slice_index_or, Ok, Err, IfOk};
+ghost use Rattle.local_blocks.specs.Blocks.{seen, IsBlock};
+ghost use Rattle.cell_blocks.specs.Visited.{HasRoom, with_block, fault_in, blocks_in};
 
 use fem_fixed::NoMemory;
 use fixed_q1::{LocalFault, Q1Scratch};
@@ -74,11 +75,9 @@ impl CellCopy {
 
     /// Puts a block behind the others.
     pub(crate) fn put(&mut self, block: Block)
-        ghost blocks: { List LocalBlock }
-        requires before { self.old ≡ Ok blocks }
-        requires room { length blocks < 9 }
+        requires room { HasRoom self.old }
         requires block { IsBlock (seen block) }
-        ensures { self.new ≡ Ok (blocks ++ seen block ∷ []) }
+        ensures { self.new ≡ with_block self.old (seen block) }
     {
         self.blocks[self.used] = block;
         self.used += 1;
@@ -92,9 +91,28 @@ impl CellCopy {
         self.fault = Some(fault);
     }
 
-    /// The fault of the first visit that has one.
+    /// The fault of the first visit that has one, where there is one.
     pub fn fault(&self) -> Option<LocalFault>
+        ensures { result ≡ fault_in self.now }
     {
         self.fault
+    }
+
+    /// How many blocks there are; none after a fault.
+    pub fn blocks(&self) -> u32
+        ensures { result ≡ length (blocks_in self.now) }
+    {
+        if self.fault.is_some() {
+            return 0;
+        }
+        self.used as u32
+    }
+
+    /// A block.
+    pub fn block(&self, k: u32) -> &Block
+        requires { k < length (blocks_in self.now) }
+        ensures { seen result.now ≡ slice_index_or (blocks_in self.now) k (seen result.now) }
+    {
+        &self.blocks[k as usize]
     }
 }

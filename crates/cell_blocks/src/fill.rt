@@ -1,6 +1,8 @@
-ghost use Rattle.std.specs.Prelude.{◌≡◌, ◌<◌, ◌≤◌, ◌++◌, All, length, Ok};
+ghost use Rattle.std.specs.Prelude.{◌≡◌, ◌<◌, ◌≤◌, ◌^◌, ◌++◌, All, length, unsigned_abs, Ok};
 ghost use Rattle.fem_fixed.specs.Mesh.{IsWithinReach};
 ghost use Rattle.fixed_q1.specs.declared.places.Part.{Part};
+ghost use Rattle.fixed_q1.specs.BoundaryForm.{boundary_form};
+ghost use Rattle.local_blocks.specs.Blocks.{seen, IsBlock};
 ghost use Rattle.dof_numbers.specs.Dofs.{IsNumberingOf};
 ghost use Rattle.mesh_visits.specs.Within.{IsVisitWithin};
 ghost use Rattle.cell_blocks.specs.Blocks as blocks;
@@ -112,31 +114,36 @@ fn own_block(
     }
 }
 
-/// The block of a face at the boundary.
+/// The block of a face at the boundary: zeros where nothing is set on its id.
 fn face_block(setting: &Setting, cell: u32, face: u8, id: u32) -> Block
     requires numbered { IsNumberingOf setting.now.forest.now setting.now.dofs.now }
     requires cell { cell < length setting.now.forest.now.cells }
     ensures { IsBlockResult (block_of (given setting.now) cell (Visit.Boundary face id)) (Ok result) }
 {
-    let mut matrix = [[0; 2]; 2];
-    let mut load = [0; 2];
-    if let Some((alpha, g)) = setting.problem.robin(id) {
-        boundary_matrix(
-            &setting.end_points(cell, face),
-            alpha,
-            g,
-            &mut matrix,
-            &mut load,
-        );
-    }
-    Block::Face {
-        dofs: setting.end_dofs(cell, face),
-        matrix,
-        load,
+    let dofs = setting.end_dofs(cell, face);
+    let ends = setting.end_points(cell, face);
+    match setting.problem.robin(id) {
+        None => robin_block(dofs, &ends, 0, 0),
+        Some((alpha, g)) => robin_block(dofs, &ends, alpha, g),
     }
 }
 
+/// The block of a face with `alpha u` added and data g, both in ticks.
+fn robin_block(dofs: [u32; 2], ends: &[Point; 2], alpha: i64, g: i64) -> Block
+    requires ends { All IsWithinReach ends.now }
+    requires alpha { unsigned_abs alpha ≤ 2 ^ 31 }
+    requires g { unsigned_abs g ≤ 2 ^ 31 }
+    ensures value { seen result ≡ record { dofs = dofs; form = boundary_form ends.now alpha g } }
+    ensures block { IsBlock (seen result) }
+{
+    let mut matrix = [[0; 2]; 2];
+    let mut load = [0; 2];
+    boundary_matrix(ends, alpha, g, &mut matrix, &mut load);
+    Block::Face { dofs, matrix, load }
+}
+
 /// A part of a face, from one side.
+#[derive(Clone, Copy)]
 struct Side {
     cell: u32,
     face: u8,
