@@ -72,7 +72,14 @@ fn constraints_keep_their_order(rt: HostRuntime) -> Result<(), Fail> {
     assert!(rt; problem.ties() == 3);
     let (node, terms, constant) = problem.tie(1);
     assert!(rt; node == 5 && terms.is_empty() && constant == 458_752);
-    let (node, terms, constant) = problem.tie(2);
+    Ok(())
+}
+
+#[test]
+fn a_constraint_without_a_constant_has_0(rt: HostRuntime) -> Result<(), Fail> {
+    let problem = read_problem(rt.alloc(), b"constraint 6 = 16*1\r\n")?;
+    assert_eq!(rt; problem.ties(), 1);
+    let (node, terms, constant) = problem.tie(0);
     assert!(rt; node == 6 && terms.len() == 1 && constant == 0);
     Ok(())
 }
