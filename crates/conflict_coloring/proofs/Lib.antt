@@ -19,3 +19,6 @@ mod Zonewise
 mod Whole
 mod Used
 mod Colorings
+mod Ranking
+mod Alike
+mod OneColoring

@@ -126,6 +126,13 @@ cells_of_row cells rows owners r d er eo =
     ap (λ x. (slice_index rows x == r) && (slice_index owners x == d)) e ∙ ap (λ x. (x == r) && (slice_index owners i == d)) a ∙ ap (λ x. ((slice_index_or ps i (0, 0)).0 == r) && (x == d)) b)
     ∙ any_pairs cells r d
 
+-- each row of a cell is among the rows of all
+pub is_entry : (cells : List (List ℕ)) (c r : ℕ) → has (rows_of cells c) r ≡ true → has (map {A = ℕ × ℕ} {B = ℕ} (λ p. p.0) (pairs cells (length cells))) r ≡ true
+is_entry cells c r h =
+    let ps : List (ℕ × ℕ) = pairs cells (length cells) in
+    let f = any_pick (is_pair r c) ps (any_pairs cells r c ∙ h) in
+    any_map (λ (p : ℕ × ℕ). p.0) (λ y. y == r) ps ∙ f.2 (λ p. p.0 == r) (and_left (f.0.0 == r) (f.0.1 == c) f.1)
+
 row_below : (cells : List (List ℕ)) (rows : List ℕ) (count c r : ℕ) → rows ≡ map (λ p. p.0) (pairs cells (length cells)) → All (λ x. x < count) rows → has (rows_of cells c) r ≡ true → r < count
 row_below cells rows count c r er below h =
     let ps : List (ℕ × ℕ) = pairs cells (length cells) in

@@ -10,3 +10,5 @@ pub mod Near
 pub mod Board
 pub mod Top
 pub mod Coloring
+pub mod Ranks
+pub mod Laws

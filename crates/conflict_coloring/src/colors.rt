@@ -9,6 +9,7 @@ use crate::Conflicts;
 use crate::dsatur::{BARE, colour_zone};
 use crate::near::near_in_zones;
 use crate::order::order_by;
+use crate::ranks::{all_rows, ranked};
 use crate::row_table::{above, by_row, cells_at};
 use crate::zones::zones_of;
 use fem_fixed::NoMemory;
@@ -65,13 +66,28 @@ impl Colors {
     }
 }
 
-/// Colours the cells so that no two of one colour conflict: zones by breadth first, each coloured by
-/// DSATUR (Brélaz, New methods to color the vertices of a graph, 1979), the colours of odd zones behind
-/// those of even ones, as `GraphColoring::make_graph_coloring` of the deal.II manual does.
+/// Colours the cells so that no two of one colour conflict: zones by breadth first, as
+/// `GraphColoring::make_graph_coloring` of the deal.II manual makes them, each coloured by DSATUR (Brélaz,
+/// New methods to color the vertices of a graph, 1979). The colours of odd zones stand behind those of
+/// even ones.
 ///
 /// It takes time near linear in the rows of all cells and in the pairs of cells that conflict inside
-/// their zones.
+/// their zones. Where a row is above the number of all rows, they are ranked before.
 pub fn color(alloc: Global, conflicts: &Conflicts) -> Result<Colors, NoMemory>
+    ensures { IfOk result (IsColoring conflicts.now) }
+{
+    let mut rows = all_rows(alloc, conflicts)?;
+    if above(&rows) <= rows.len() {
+        return colored(alloc, conflicts);
+    }
+    rows.sort_unstable();
+    let ranked = ranked(alloc, conflicts, &rows)?;
+    let colors = colored(alloc, &ranked)?;
+    Ok(colors)
+}
+
+// The colouring, over a table as long as the greatest row.
+fn colored(alloc: Global, conflicts: &Conflicts) -> Result<Colors, NoMemory>
     ensures { IfOk result (IsColoring conflicts.now) }
 {
     let numbers = numbers(alloc, conflicts.len())?;

@@ -3,6 +3,7 @@ ghost use Rattle.std.specs.Prelude.{◌≡◌, IfOk, length};
 use crate::{Colors, Conflicts, color};
 use fem_fixed::NoMemory;
 use std::alloc::Global;
+use std::process::Abort;
 use std::test::Fail;
 
 // No zone, no colour.
@@ -236,8 +237,15 @@ fn cells_apart_have_zones_of_their_own(rt: HostRuntime) -> Result<(), Fail> {
     let none = color(rt.alloc(), &Conflicts::new(rt.alloc()))?;
     assert_eq!(rt; none.order().len(), 0);
     assert_eq!(rt; none.starts(), [0].as_slice());
+    // Small rows, and rows far above their number.
+    three_cells(&rt, 0, 1)?;
+    three_cells(&rt, u32::MAX, 7)
+}
+
+/// Three cells with one row each, the last with that of the first.
+fn three_cells<R: Abort + AllocGlobal>(rt: &R, first: u32, second: u32) -> Result<(), Fail> {
     let mut cells = Conflicts::new(rt.alloc());
-    for row in [0, 1, 0] {
+    for row in [first, second, first] {
         if cells.len() < 1000 {
             cells.add(&[row])?;
         }
