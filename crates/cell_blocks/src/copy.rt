@@ -9,6 +9,7 @@ use std::alloc::Global;
 use std::marker::Model;
 
 /// Room to work in for the local forms of a cell. What it holds before a call never matters.
+#[derive(Drop)]
 pub struct CellScratch {
     pub(crate) forms: Q1Scratch,
 }

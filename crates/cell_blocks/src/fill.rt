@@ -82,11 +82,7 @@ fn visit_block(
 }
 
 /// The block of the cell itself.
-fn own_block(
-    setting: &Setting,
-    cell: u32,
-    scratch: &mut CellScratch,
-) -> Result<Block, LocalFault>
+fn own_block(setting: &Setting, cell: u32, scratch: &mut CellScratch) -> Result<Block, LocalFault>
     requires numbered { IsNumberingOf setting.now.forest.now setting.now.dofs.now }
     requires cell { cell < length setting.now.forest.now.cells }
     ensures { IsBlockResult (block_of (given setting.now) cell Visit.Cell) result }
@@ -177,7 +173,10 @@ fn part_block(
         &mut matrix,
     ) {
         Ok(()) => Ok(Block::Part {
-            dofs: both_dofs(setting.dofs.of_cell(here.cell), setting.dofs.of_cell(there.cell)),
+            dofs: both_dofs(
+                setting.dofs.of_cell(here.cell),
+                setting.dofs.of_cell(there.cell),
+            ),
             matrix,
             load: [0; 8],
         }),

@@ -5,6 +5,8 @@
 mod copy;
 mod fill;
 mod setting;
+#[cfg(test)]
+mod tests;
 
 pub use copy::{CellCopy, CellScratch};
 pub use fill::fill_blocks;

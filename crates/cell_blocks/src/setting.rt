@@ -11,6 +11,7 @@ use hanging_refine::Forest;
 use problem_read::Problem;
 
 /// What blocks are made of: a refined mesh, its dofs, and the coefficients of a problem.
+#[derive(Drop)]
 pub struct Setting<'a> {
     pub forest: &'a Forest,
     pub dofs: &'a Dofs,
