@@ -22,12 +22,7 @@ const UNIT_WEIGHT: i64 = 65_536;
 
 /// Adds the contributions of a block to the rows, one after another. A sum above 2^80 in size isn't added. The
 /// least row with such a sum so far comes in and goes out, so that the blocks of a cell are added one by one.
-pub fn add_block(
-    rows: &mut Rows,
-    system: &System,
-    block: &Block,
-    least: Option<u32>,
-) -> Option<u32>
+pub fn add_block(rows: &mut Rows, system: &System, block: &Block, least: Option<u32>) -> Option<u32>
     requires digits { system.now.digits ≤ 64 }
     requires fits { FitsRows system.now.pattern.now rows.old }
     requires block { IsBlock (seen block.now) }
