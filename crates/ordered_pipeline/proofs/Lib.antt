@@ -11,4 +11,3 @@ pub mod Closing
 pub mod Slotted
 pub mod Begins
 pub mod Events
-pub mod Fresh
