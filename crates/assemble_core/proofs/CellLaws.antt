@@ -1,6 +1,6 @@
 -- The step of one cell.
-use Rattle.std.proofs.Common.{◌≡◌, sym, ap, refl, ℕ, ◌<◌, ◌≤◌, ◌^◌, List, [], ◌∷◌, length, ℤ, pos, arith, zero, suc}
-use Rattle.std.specs.Prelude.{All, IsOk, Ok, Err}
+use Rattle.std.proofs.Common.{◌≡◌, sym, ap, refl, ℕ, ◌<◌, ◌≤◌, ◌^◌, List, [], ◌∷◌, length, slice_index_or, ℤ, pos, arith, lit≤, zero, suc}
+use Rattle.std.specs.Prelude.{All, IsOk, Ok, Err, unsigned_abs}
 use Rattle.std.specs.declared.result.Result.{Result}
 use Rattle.std.specs.declared.option.Option.{Option}
 use Rattle.fem_fixed.specs.declared.mesh.Point.{Point}
@@ -9,7 +9,6 @@ use Rattle.fem_fixed.specs.Mesh.{IsWithinReach}
 use Rattle.fixed_q1.specs.LocalForm.{LocalForm}
 use Rattle.fixed_q1.specs.CellForm.{cell_form}
 use Rattle.fixed_q1.specs.declared.fault.LocalFault.{LocalFault}
-use Rattle.fixed_q1.proofs.Bounds.{form_small}
 use Rattle.assemble_core.specs.Numbering.{vertices}
 use Rattle.assemble_core.specs.SerialSum.{contributions, form_contributions, matrix_contributions}
 use Rattle.assemble_core.specs.System.{vertex_points, unit_diffusion}
@@ -31,15 +30,21 @@ vertices_reach points quad reach inside =
     all_four IsWithinReach _ _ _ _ (reach _ origin (inside 0 0 (omega arith))) (reach _ origin (inside 1 0 (omega arith)))
     (reach _ origin (inside 2 0 (omega arith))) (reach _ origin (inside 3 0 (omega arith)))
 
--- the entries of a cell may be added
-pub form_terms : (points : List Point) (diffusion source : ℤ) (matrix : List (List ℤ)) (load : List ℤ) →
-    cell_form points diffusion source ≡ Ok (record { matrix = matrix; load = load }) → AreTerms matrix
-form_terms points diffusion source matrix load h i j =
-    let small = form_small points diffusion source (record { matrix = matrix; load = load }) h i j in
-    omega (arith, small, powers)
+row_terms : (row : List ℤ) (j : ℕ) → All (λ entry. unsigned_abs entry ≤ 2 ^ 72) row → unsigned_abs (slice_index_or row j (pos 0)) ≤ 2 ^ 100
+row_terms [] j small = lit≤ tt
+row_terms (entry ∷ row) zero small =
+    let first = small 0 (pos 0) (omega arith) in
+    omega (arith, first, powers)
   where
     powers : 2 ^ 72 ≤ 2 ^ 100
     powers = omega arith
+row_terms (entry ∷ row) (suc j) small = row_terms row j (λ k d below. small (suc k) d (omega arith))
+
+-- entries of at most 2 ^ 72 may be added
+pub small_terms : (matrix : List (List ℤ)) → All (All (λ entry. unsigned_abs entry ≤ 2 ^ 72)) matrix → AreTerms matrix
+small_terms [] small i j = lit≤ tt
+small_terms (row ∷ matrix) small zero j = row_terms row j (small 0 [] (omega arith))
+small_terms (row ∷ matrix) small (suc i) j = small_terms matrix (λ k d below. small (suc k) d (omega arith)) i j
 
 -- what a formed cell contributes
 pub formed : (table : List (Option ℕ)) (points : List Point) (quad : Quad) (matrix : List (List ℤ)) (load : List ℤ) →

@@ -7,7 +7,7 @@ use Rattle.fixed_q1.specs.CellForm.{cell_form}
 use Rattle.assemble_core.specs.SerialSum.{Contribution, matrix_contributions}
 use Rattle.assemble_core.specs.System.{vertex_points, unit_diffusion}
 use Rattle.assemble_core.specs.Sums.{AddsUpTo}
-use Rattle.assemble_core.proofs.CellLaws.{vertices_reach, form_terms, formed, is_formed}
+use Rattle.assemble_core.proofs.CellLaws.{vertices_reach, small_terms, formed, is_formed}
 use Rattle.assemble_core.proofs.SumSteps.{all_added, passes_at}
 use Rattle.assemble_core.proofs.assembly.add_cell.Goals as goal
 
@@ -17,7 +17,7 @@ cell_matrix-requires-clause-points c =
     subst P (sym c.cell_points-vertices.ensures) (vertices_reach c.args.points.now c.args.quad.now c.requires.reach c.requires.corners)
 
 pub add_matrix-requires-clause-terms : goal.add_matrix-requires-clause-terms
-add_matrix-requires-clause-terms c = form_terms c.cell_points-vertices.result _ _ c.cell_matrix.new.matrix c.cell_matrix.new.rhs c.in-Ok.ensures.ok
+add_matrix-requires-clause-terms c = small_terms c.cell_matrix.new.matrix c.in-Ok.ensures.small
 
 pub returns-in-Ok-None-clause-ok : goal.returns-in-Ok-None-clause-ok
 returns-in-Ok-None-clause-ok c =
