@@ -1,4 +1,4 @@
-use Rattle.std.proofs.Common.{arith, ap, sym, subst, ◌∙◌, ◌≡◌, ℕ, length, vec_len}
+use Rattle.std.proofs.Common.{arith, ap, sym, subst, ◌∙◌, ◌≡◌, length, vec_len}
 use Rattle.scratch_pool.specs.Pools.{AreIdle}
 use Rattle.scratch_pool.proofs.Fresh as pool
 use Rattle.ordered_pipeline.proofs.Fresh.{length_is, are_fresh}
