@@ -1,5 +1,5 @@
 //! A toy job: item n appends the hexadecimal digit n to a number, so a change of order changes the number.
-ghost use Rattle.std.specs.Prelude.{◌≡◌, ◌<◌, ◌≤◌, ◌+◌, ◌*◌, ◌%◌, ◌^◌, ℕ, All, false, vec_len, [], ◌∷◌};
+ghost use Rattle.std.specs.Prelude.{◌≡◌, ◌<◌, ◌≤◌, ◌+◌, ◌*◌, ◌%◌, ◌^◌, ℕ, All, Some, false, vec_len, [], ◌∷◌};
 ghost use Rattle.std.specs.Vec.{vec_capacity};
 ghost use Rattle.ordered_pipeline.specs.declared.view.Phase.TheVariants as phase;
 ghost use Rattle.ordered_pipeline.specs.Passes.{IsPassOf, IsSame};
@@ -101,23 +101,41 @@ fn look(rt: &impl Abort, pipeline: &Pipeline<Digits>, pass: &mut Pass<Digits>) -
     }
 }
 
-// Works the drawn item, and copies for as long as the pass has the baton: how many items it copied.
-fn work(rt: &impl Abort, pipeline: &Pipeline<Digits>, job: &Digits, pass: &mut Pass<Digits>) -> u64
+// Starts and works the drawn item.
+fn work(
+    rt: &impl Abort,
+    pipeline: &Pipeline<Digits>,
+    job: &Digits,
+    pass: &mut Pass<Digits>,
+) -> Worked
     requires pass { IsPassOf pipeline.now.table pipeline.now.key pass.old }
     requires drawn { (n : ℕ) × (pass.old.phase ≡ phase.Drawn n) × (n < job.now.items) }
-    requires job { job.now ≡ pipeline.now.key.job.value }
-    ensures { IsSame pass.old pass.new × (pass.new.phase ≡ phase.Idle) × (pass.new.over ≡ pass.old.over) }
+    ensures pass { IsSame pass.old pass.new × (pass.new.phase ≡ phase.Started result) × (pass.new.over ≡ pass.old.over) }
+    ensures copy { pass.new.copy ≡ Some result }
 {
     let mut scratch = 0u64;
     match pipeline.try_start(pass) {
         Start::NotYet(_) => panic!(rt; "not yet"),
-        Start::Go(turn) => {
-            let worked = job.work(turn, &mut scratch, pass.copy_object());
-            match pipeline.finish(pass, worked) {
-                Handed::Left => 0,
-                Handed::Baton => copy_all(rt, pipeline, job, pass),
-            }
-        }
+        Start::Go(turn) => job.work(turn, &mut scratch, pass.copy_object()),
+    }
+}
+
+// Finishes the item, and copies for as long as the pass has the baton: how many items it copied.
+fn finish(
+    rt: &impl Abort,
+    pipeline: &Pipeline<Digits>,
+    job: &Digits,
+    pass: &mut Pass<Digits>,
+    worked: Worked,
+) -> u64
+    requires pass { IsPassOf pipeline.now.table pipeline.now.key pass.old }
+    requires started { (pass.old.phase ≡ phase.Started worked) × (pass.old.copy ≡ Some worked) }
+    requires job { job.now ≡ pipeline.now.key.job.value }
+    ensures { IsSame pass.old pass.new × (pass.new.phase ≡ phase.Idle) × (pass.new.over ≡ pass.old.over) }
+{
+    match pipeline.finish(pass, worked) {
+        Handed::Left => 0,
+        Handed::Baton => copy_all(rt, pipeline, job, pass),
     }
 }
 
@@ -153,10 +171,13 @@ fn one_place_and_two_passes(rt: HostRuntime) -> Result<(), Fail> {
     assert_eq!(rt; draw_item(&rt, &pipeline, &mut b), 1);
     assert_eq!(rt; look(&rt, &pipeline, &mut b), 0);
     assert_eq!(rt; b.looks(), 1);
-    assert_eq!(rt; work(&rt, &pipeline, &job, &mut a), 1);
-    assert_eq!(rt; work(&rt, &pipeline, &job, &mut b), 1);
+    let zero = work(&rt, &pipeline, &job, &mut a);
+    assert_eq!(rt; finish(&rt, &pipeline, &job, &mut a, zero), 1);
+    let one = work(&rt, &pipeline, &job, &mut b);
+    assert_eq!(rt; finish(&rt, &pipeline, &job, &mut b, one), 1);
     assert_eq!(rt; draw_item(&rt, &pipeline, &mut a), 2);
-    assert_eq!(rt; work(&rt, &pipeline, &job, &mut a), 1);
+    let last = work(&rt, &pipeline, &job, &mut a);
+    assert_eq!(rt; finish(&rt, &pipeline, &job, &mut a, last), 1);
     assert_eq!(rt; draw_past(&rt, &pipeline, &mut a), 3);
     assert_eq!(rt; draw_past(&rt, &pipeline, &mut b), 4);
     assert!(rt; a.is_over() && b.is_over());
@@ -181,8 +202,10 @@ fn two_places_and_two_passes(rt: HostRuntime) -> Result<(), Fail> {
     let (mut a, mut b) = two(&mut passes);
     assert_eq!(rt; draw_item(&rt, &pipeline, &mut a), 0);
     assert_eq!(rt; draw_item(&rt, &pipeline, &mut b), 1);
-    assert_eq!(rt; work(&rt, &pipeline, &job, &mut b), 0);
-    assert_eq!(rt; work(&rt, &pipeline, &job, &mut a), 2);
+    let zero = work(&rt, &pipeline, &job, &mut a);
+    let one = work(&rt, &pipeline, &job, &mut b);
+    assert_eq!(rt; finish(&rt, &pipeline, &job, &mut b, one), 0);
+    assert_eq!(rt; finish(&rt, &pipeline, &job, &mut a, zero), 2);
     assert!(rt; !a.is_over());
     passes.push_reserved(a);
     passes.push_reserved(b);
