@@ -1,14 +1,11 @@
 -- Each step is an event of the machine.
-use Rattle.std.proofs.Common.{◌≡◌, ◌≢◌, ℕ, ◌+◌, ◌*◌, ◌%◌, ◌^◌, ◌<◌, ◌≤◌, List, length, get_or, set, sym, refl, ap, ◌∙◌, subst, arith, get_or-set_same, get_or-set_other}
+use Rattle.std.proofs.Common.{◌≡◌, ◌≢◌, ℕ, ◌+◌, ◌*◌, ◌%◌, ◌^◌, ◌<◌, ◌≤◌, List, length, get_or, set, sym, refl, ap, ◌∙◌, arith, get_or-set_same, get_or-set_other}
 use Rattle.std.proofs.Math.Nat.{mod-eq_of_lt}
 use Rattle.std.proofs.lemmas.List.{set-get_or}
-use lib.ListN.{get_elem?}
-use mathlib.Core.Option.{some}
 use Rattle.ordered_pipeline.specs.declared.view.View.{View}
-use Rattle.ordered_pipeline.specs.declared.view.Phase.TheVariants.{Idle, Drawn, Started, Baton, Advanced}
 use Rattle.scratch_pool.specs.Counts.{total}
 use Rattle.scratch_pool.proofs.Sums.{total_le}
-use Rattle.ordered_pipeline.specs.Machine.{READY, TURN, phased}
+use Rattle.ordered_pipeline.specs.Machine.{READY, TURN}
 use Rattle.ordered_pipeline.specs.Laws.{DrawsAreEvents, LooksAreEvents, FinishesAreEvents, AdvancesAreEvents, PassesAreEvents, SplitsAreEvents, JoinsAreEvents}
 
 -- the words of another place stay

@@ -1,5 +1,5 @@
 -- The steps under the rule of a job.
-use Rattle.std.proofs.Common.{◌≡◌, ◌≢◌, ℕ, suc, ◌+◌, ◌%◌, ◌^◌, ◌<◌, List, [], ◌∷◌, ◌++◌, get_or, sym, refl, ap, ◌∙◌, subst, arith, Option, Some, ◌*◌}
+use Rattle.std.proofs.Common.{◌≡◌, ◌≢◌, ℕ, suc, ◌+◌, ◌%◌, ◌^◌, ◌<◌, List, [], ◌∷◌, ◌++◌, get_or, sym, refl, ap, ◌∙◌, subst, arith, Some, ◌*◌}
 use Rattle.atomic_table.specs.Table.{State, Me, Step, step, Allows, rest, carried_after}
 use Rattle.ordered_pipeline.specs.declared.view.View.{View}
 use Rattle.ordered_pipeline.specs.declared.view.Known.{Known}

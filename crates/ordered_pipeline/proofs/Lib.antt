@@ -11,3 +11,4 @@ pub mod Closing
 pub mod Slotted
 pub mod Begins
 pub mod Events
+pub mod Fresh

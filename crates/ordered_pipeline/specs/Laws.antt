@@ -1,5 +1,5 @@
 -- Each step of the code is one event of the machine, and no other pass takes part in it.
-use Rattle.std.specs.Prelude.{◌≡◌, ◌≢◌, ℕ, ◌+◌, ◌*◌, ◌%◌, ◌^◌, ◌<◌, ◌≤◌, List, [], ◌∷◌, ◌++◌, slice_index, slice_set, Some}
+use Rattle.std.specs.Prelude.{◌≡◌, ◌≢◌, ℕ, ◌+◌, ◌*◌, ◌%◌, ◌^◌, ◌<◌, [], ◌∷◌, ◌++◌, slice_index, slice_set}
 use mathlib.Core.Option.{some}
 use lib.ListN.{get_elem?}
 use Rattle.atomic_table.specs.Table.{State, Act, stepped, rest}
@@ -8,7 +8,7 @@ use Rattle.ordered_pipeline.specs.declared.view.Known.{Known}
 use Rattle.ordered_pipeline.specs.declared.view.Cargo.{Cargo}
 use Rattle.ordered_pipeline.specs.declared.view.Phase.TheVariants.{Idle, Drawn, Started, Baton, Advanced}
 use Rattle.ordered_pipeline.specs.declared.rule.Key.{Key}
-use Rattle.ordered_pipeline.specs.Machine.{READY, TURN, Event, draws, looks, finishes, advances, passes_on, splits, joins, Happens, dealing, dealt, joined, spent_view, phased}
+use Rattle.ordered_pipeline.specs.Machine.{READY, TURN, draws, looks, finishes, advances, passes_on, splits, joins, Happens, dealing, dealt, joined, spent_view, phased}
 use Rattle.ordered_pipeline.specs.Plays.{Holder, DrewAt, LookedAt, FinishedAt, PassedAt}
 use Rattle.ordered_pipeline.specs.Rule.{Kept, machine}
 

@@ -1,7 +1,7 @@
 -- The rule of a pipeline, which holds between any two steps of any callers. Word 0 of its table is the next number, word 8
 -- the copied count, and the ring's words stand at 16, 24, ..: a cache line of 64 bytes has one of them. The copy objects are
 -- the first slots, one for each place of the ring, and the state is the last one.
-use Rattle.std.specs.Prelude.{◌≡◌, ℕ, ◌+◌, ◌*◌, ◌%◌, ◌<◌, ◌≤◌, ◌⊎◌, List, [], ◌∷◌, length, slice_index, if◌then◌else◌, ◌==◌}
+use Rattle.std.specs.Prelude.{◌≡◌, ℕ, ◌+◌, ◌*◌, ◌%◌, ◌<◌, ◌≤◌, ◌⊎◌, List, length, slice_index, if◌then◌else◌, ◌==◌}
 use mathlib.Core.Option.{Option, none, some}
 use lib.ListN.{get_elem?}
 use Rattle.atomic_table.specs.Table.{State}

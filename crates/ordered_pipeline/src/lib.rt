@@ -13,6 +13,8 @@ mod pipeline;
 mod rule;
 mod slots;
 mod steps;
+#[cfg(test)]
+mod tests;
 mod turn;
 mod view;
 

@@ -1,4 +1,4 @@
-use Rattle.std.proofs.Common.{◌≡◌, ◌≤◌, ◌-◌, vec_len, Some, []}
+use Rattle.std.proofs.Common.{◌≡◌, ◌≤◌, ◌-◌, vec_len, []}
 use Rattle.std.specs.Vec.{vec_capacity}
 use Rattle.ordered_pipeline.specs.declared.view.Phase.TheVariants.{Idle}
 use Rattle.ordered_pipeline.specs.Machine.{view, known}
