@@ -9,6 +9,11 @@ use Rattle.affine_constraints.specs.Closing.{AreClosedForms, IsClosedForm}
 use Rattle.local_blocks.specs.Blocks.{LocalBlock}
 use Rattle.sparsity.specs.Coupled.{CoupledDofs, rows_of, row_of, is_coupled, has}
 use Rattle.serial_sum.specs.Columns.{columns_at, has_column}
+use Rattle.sparsity.specs.declared.rows.Row.{Row}
+use Rattle.sparsity.specs.Rows.{zero_row}
+use Rattle.serial_sum.specs.Rows.{FitsRow, FitsRows}
+use Rattle.serial_sum.proofs.RowLaws.{rows_row}
+use Rattle.serial_sum.proofs.StateLaws.{zero_fits}
 use Rattle.block_sums.specs.Masters.{masters, masters_by, itself, Couples, Holds}
 use Rattle.cell_sums.specs.Parts.{IsHeld, HoldsAll}
 
@@ -57,8 +62,24 @@ block_held table block size forms below = record {
   };
 }
 
-pub four_hold : (pattern : List (List ℕ)) (table : List (Option AffineLine)) (blocks : List LocalBlock) → pattern ≡ rows_of (record { size = 4; lists = (0 ∷ 1 ∷ 2 ∷ 3 ∷ []) ∷ [] }) → length table ≡ 4 →
-    AreClosedForms table → All (λ (block : LocalBlock). All (λ dof. dof < 4) block.dofs) blocks → HoldsAll pattern table blocks
-four_hold pattern table blocks e size forms below =
+one_block : (P : LocalBlock → Type 0) (blocks : List LocalBlock) (block : LocalBlock) → length blocks ≡ 1 → block ≡ slice_index_or blocks 0 block → P block → All P blocks
+one_block P [] block one e here = absurd (omega (arith, one))
+one_block P (b ∷ []) block one e here = All-cons P b [] (subst P e here) (All-nil P)
+one_block P (b ∷ c ∷ blocks) block one e here = absurd (omega (arith, one))
+
+pub four_hold : (pattern : List (List ℕ)) (table : List (Option AffineLine)) (blocks : List LocalBlock) (block : LocalBlock) → pattern ≡ rows_of (record { size = 4; lists = (0 ∷ 1 ∷ 2 ∷ 3 ∷ []) ∷ [] }) →
+    length table ≡ 4 → AreClosedForms table → length blocks ≡ 1 → block ≡ slice_index_or blocks 0 block → All (λ dof. dof < 4) block.dofs → HoldsAll pattern table blocks
+four_hold pattern table blocks block e size forms one at below =
     let P : List (List ℕ) → Type 0 = λ rows. HoldsAll rows table blocks in
-    subst P (sym e) (λ k d inside. block_held table (slice_index_or blocks k d) size forms (below k d inside))
+    subst P (sym e) (one_block (IsHeld (rows_of four) table) blocks block one at (block_held table block size forms below))
+
+-- rows of zeros
+pub zero_rows_fit : (pattern : List (List ℕ)) (rows : List Row) → rows ≡ map zero_row pattern → FitsRows pattern rows
+zero_rows_fit pattern rows e = let P : List Row → Type 0 = FitsRows pattern in subst P (sym e) (zero_fits pattern)
+
+pub zero_row_fits : (pattern : List (List ℕ)) (rows : List Row) (row : Row) (i : ℕ) → rows ≡ map zero_row pattern → i < length pattern → row ≡ slice_index_or rows i row → FitsRow (columns_at pattern i) row
+zero_row_fits pattern rows row i e inside at =
+    let fits : FitsRows pattern rows = zero_rows_fit pattern rows e in
+    let P : Row → Type 0 = FitsRow (columns_at pattern i) in
+    let within : i < length rows = omega (arith, inside, fits.count) in
+    subst P (sym (rows_row rows i row within at)) (fits.each i inside)

@@ -1,5 +1,4 @@
 ghost use Rattle.std.specs.Prelude.{◌≡◌, ◌<◌, ◌≤◌, ◌∷◌, [], All, IsTrue, IfOk, length};
-ghost use Rattle.local_blocks.specs.Blocks.{LocalBlock};
 ghost use Rattle.cell_blocks.specs.Visited.{blocks_in};
 ghost use Rattle.sparsity.specs.Coupled.{rows_of};
 ghost use Rattle.cell_sums.specs.Parts.{HoldsAll};
@@ -97,7 +96,7 @@ fn line_of_dof_3<R: Abort + AllocGlobal>(rt: &R) -> Result<Closed, Fail>
     }
 }
 
-/// Whether the table has four places, and the dofs of the blocks are among them.
+/// Whether the table has four places, and there is one block, whose dofs are among them.
 fn is_held(system: &System, copy: &CellCopy) -> bool
     requires { system.now.pattern.now ≡ rows_of (record { size = 4; lists = (0 ∷ 1 ∷ 2 ∷ 3 ∷ []) ∷ [] }) }
     ensures { IsTrue result → HoldsAll system.now.pattern.now system.now.closed.now (blocks_in copy.now) }
@@ -105,27 +104,20 @@ fn is_held(system: &System, copy: &CellCopy) -> bool
     if system.closed.size() != 4 {
         return false;
     }
-    are_below_four(copy)
-}
-
-fn are_below_four(copy: &CellCopy) -> bool
-    ensures { IsTrue result → All (λ (block : LocalBlock). All (λ dof. dof < 4) block.dofs) (blocks_in copy.now) }
-{
-    for k in 0..copy.blocks() {
-        if !is_below_four(copy.block(k).dofs()) {
-            return false;
-        }
+    if copy.blocks() != 1 {
+        return false;
     }
-    true
+    are_below_four(copy.block(0).dofs())
 }
 
-fn is_below_four(dofs: &[u32]) -> bool
+fn are_below_four(dofs: &[u32]) -> bool
     ensures { IsTrue result → All (λ dof. dof < 4) dofs.now }
 {
     dofs.iter().all(|dof| *dof < 4)
 }
 
 /// The rows with the cell alone.
+#[tactic(auto, using(crate::proofs::Four::zero_rows_fit))]
 fn rows_with<R: Abort + AllocGlobal>(
     rt: &R,
     system: &System,
@@ -141,6 +133,7 @@ fn rows_with<R: Abort + AllocGlobal>(
 }
 
 /// The state with the cell alone.
+#[tactic(auto, using(crate::proofs::Four::zero_rows_fit))]
 fn state_with<R: AllocGlobal>(
     rt: &R,
     system: &System,
@@ -198,6 +191,7 @@ fn a_side_is_spread_over_the_masters_of_its_dofs(rt: HostRuntime) -> Result<(), 
     assert!(rt; state.rows.size() == 4);
     assert_eq!(rt; state.rows.get(2).rhs, 0);
     assert_eq!(rt; state.rows.get(1).rhs, 178_956_971);
+    assert!(rt; pattern.size() == 4);
     let row = row_1_with(&rt, &system, &copy)?;
     assert_eq!(rt;
         row.values.as_slice(),
