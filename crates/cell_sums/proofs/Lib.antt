@@ -1,2 +1,3 @@
-mod Cells
-mod RowCells
+pub mod Cells
+pub mod RowCells
+pub mod Four
