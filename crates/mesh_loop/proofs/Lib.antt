@@ -1,0 +1,4 @@
+pub mod MasterSteps
+pub mod Gathering
+pub mod Holding
+pub mod FirstFailure
