@@ -1,2 +1,4 @@
 pub mod Runs
 pub mod Values
+pub mod Sizes
+pub mod Allowed

@@ -4,6 +4,7 @@ use Rattle.std.specs.List.{fold, flat_map, range_with_len}
 use Rattle.std.specs.declared.option.Option.{Option}
 use Rattle.std.proofs.lemmas.List.Sums.{fold-append}
 use Rattle.std.proofs.lemmas.Grind.{flat_map-append}
+use Rattle.std.proofs.lemmas.List.Elements.{All-nil, All-cons, All-append}
 use Rattle.std.proofs.lemmas.List.{take_more, map-append, append-nil}
 use Rattle.serial_sum.specs.Columns.{columns_at}
 use Rattle.serial_sum.specs.Rows.{FitsRows, IsFor, one, with_row, is_added, row_at, least_after}
@@ -21,11 +22,12 @@ put_adds system rows now least lower added given fits for_it rows_are added_is l
   run = ap (λ l. run_of now l) (lower_is ∙ ap (λ b. least_after b least given.row) added_is)
       ∙ ap (λ r. run_of r (least_after (is_added system.digits (columns_at system.pattern.now given.row) (row_at rows given.row) given.target given.value) least given.row)) rows_are;
   fits = rw rows_are (rows_fit system.digits system.pattern.now rows given fits for_it);
+  allowed = All-cons (IsFor system.pattern.now) given [] for_it (All-nil (IsFor system.pattern.now));
 }
 
 pub none_adds : (system : System) (rows : List Row) (least : Option ℕ) → FitsRows system.pattern.now rows → Adds system rows least rows least []
 unfolding after
-none_adds system rows least fits = record { run = refl; fits = fits }
+none_adds system rows least fits = record { run = refl; fits = fits; allowed = All-nil (IsFor system.pattern.now) }
 
 pub both_add : (system : System) (rows middle now : List Row) (least between lower : Option ℕ) (xs ys : List Contribution) → Adds system rows least middle between xs →
     Adds system middle between now lower ys → Adds system rows least now lower (xs ++ ys)
@@ -33,6 +35,7 @@ unfolding after
 both_add system rows middle now least between lower xs ys a b = record {
   run = b.run ∙ ap (λ r. fold (one system.digits system.pattern.now) r ys) a.run ∙ sym (fold-append (one system.digits system.pattern.now) (run_of rows least) xs ys);
   fits = b.fits;
+  allowed = All-append (IsFor system.pattern.now) xs ys a.allowed b.allowed;
 }
 
 pub same_adds : (system : System) (rows now : List Row) (least lower : Option ℕ) (xs ys : List Contribution) → xs ≡ ys → Adds system rows least now lower xs → Adds system rows least now lower ys

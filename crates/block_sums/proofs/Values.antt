@@ -1,5 +1,5 @@
 -- Numbers of the code that fit their types, and what couples with what.
-use Rattle.std.proofs.Common.{◌≡◌, ◌∙◌, sym, ap, refl, subst, ℕ, ◌<◌, ◌≤◌, ◌^◌, ℤ, pos, Bool, true, false, List, [], ◌∷◌, ◌++◌, length, map, FitsSigned, w64, lit<, arith, Some, None, slice_index, slice_index_or}
+use Rattle.std.proofs.Common.{◌≡◌, ◌∙◌, sym, ap, refl, subst, ℕ, zero, suc, ◌<◌, ◌≤◌, ◌^◌, ℤ, pos, negsuc, of_z, Bool, true, false, cond, List, [], ◌∷◌, ◌++◌, length, map, FitsSigned, w64, lit<, arith, Some, None, slice_index, slice_index_or}
 use Rattle.std.specs.Prelude.{unsigned_abs}
 use Rattle.std.specs.Int.{w128}
 use Rattle.std.specs.List.{All, flat_map}
@@ -13,8 +13,8 @@ use Rattle.local_blocks.specs.Blocks.{LocalBlock}
 use Rattle.serial_sum.specs.declared.part.Contribution.{Contribution}
 use Rattle.serial_sum.specs.declared.part.Target.TheVariants.{Column, RightSide}
 use Rattle.block_sums.specs.Masters.{masters, masters_by, constant_of, itself, Couples, Holds, IsMasterFor}
-use Rattle.block_sums.specs.Contributions.{to, column_terms, constant_terms, master_terms, row_terms, own_by, own_terms, dof_at, entry_at}
-use Rattle.block_sums.specs.Shares.{entry_share}
+use Rattle.block_sums.specs.Contributions.{to, is_zero, column_terms, constant_terms, master_terms, row_terms, own_by, own_terms, dof_at, entry_at}
+use Rattle.block_sums.specs.Shares.{entry_share, constant_share}
 use Rattle.block_sums.specs.Adding.{CouplesAll, IsWeight}
 
 pub fits_weight : (a : ℤ) → unsigned_abs a ≤ 2 ^ 31 → FitsSigned w64 a
@@ -22,6 +22,16 @@ fits_weight a h = fits_signed_from_abs w64 a (omega (arith, h))
 
 pub fits_share : (a : ℤ) → unsigned_abs a ≤ 2 ^ 100 → FitsSigned w128 a
 fits_share a h = size_fits a (2 ^ 100) h (lit< tt)
+
+pub not_zero : (constant : ℤ) → (of_z w64 constant ≡ 0 → ⊥) → is_zero constant ≡ false
+not_zero (pos zero) h = absurd (h refl)
+not_zero (pos (suc n)) h = grind arith
+not_zero (negsuc n) h = grind arith
+
+-- a constant that isn't 0 adds its share
+pub constant_left : (row : ℕ) (weight entry constant share : ℤ) → is_zero constant ≡ false → share ≡ constant_share weight entry constant → to row RightSide share ∷ [] ≡ constant_terms row weight entry constant
+constant_left row weight entry constant share there e =
+    ap (λ (v : ℤ). to row RightSide v ∷ []) e ∙ sym (ap (λ (b : Bool). cond b [] (to row RightSide (constant_share weight entry constant) ∷ [])) there)
 
 -- a free dof is its own master
 pub free_masters : (lines : Lines) (dof : ℕ) → lines dof ≡ None → masters lines dof ≡ itself dof ∷ []

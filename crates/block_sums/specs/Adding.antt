@@ -26,7 +26,8 @@ IsWeight term = unsigned_abs term.weight ≤ 2 ^ 20
 abbrev pub CouplesAll : List (List ℕ) → ℕ → List Term → Type 0
 CouplesAll pattern row terms = All (λ (term : Term). Couples pattern row term.dof) terms
 
--- the contributions were added, one after another, and the rows still fit
+-- the contributions may be added and were, one after another, and the rows still fit
 pub record Adds (system : System) (rows : List Row) (least : Option ℕ) (now : List Row) (lower : Option ℕ) (list : List Contribution) : Type 0 where
   pub run : run_of now lower ≡ after system.digits system.pattern.now (run_of rows least) list
   pub fits : FitsRows system.pattern.now now
+  pub allowed : All (IsFor system.pattern.now) list

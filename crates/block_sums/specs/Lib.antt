@@ -2,3 +2,4 @@ pub mod Shares
 pub mod Masters
 pub mod Contributions
 pub mod Adding
+pub mod SmallLines

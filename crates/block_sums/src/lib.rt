@@ -3,8 +3,10 @@
 #![tactic(auto)]
 
 mod adding;
+mod laws;
 mod shares;
 mod system;
 
 pub use adding::add_block;
+pub use laws::{closed_lines_are_small, contributions_may_be_added};
 pub use system::System;

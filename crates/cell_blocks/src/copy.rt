@@ -1,4 +1,4 @@
-ghost use Rattle.std.specs.Prelude.{◌≡◌, ◌<◌, [], length, slice_index_or, Ok, Err, IfOk};
+ghost use Rattle.std.specs.Prelude.{◌≡◌, ◌<◌, [], All, length, slice_index_or, Ok, Err, IfOk};
 ghost use Rattle.local_blocks.specs.Blocks.{seen, IsBlock};
 ghost use Rattle.cell_blocks.specs.Visited.{HasRoom, with_block, fault_in, blocks_in};
 
@@ -101,7 +101,8 @@ impl CellCopy {
 
     /// How many blocks there are; none after a fault.
     pub fn blocks(&self) -> u32
-        ensures { result ≡ length (blocks_in self.now) }
+        ensures count { result ≡ length (blocks_in self.now) }
+        ensures whole { All IsBlock (blocks_in self.now) }
     {
         if self.fault.is_some() {
             return 0;
