@@ -11,9 +11,9 @@ use Rattle.std.proofs.lemmas.List.FromFn.{map-range_with_len_more}
 use Rattle.std.proofs.lemmas.Map.Keys.{sorted_from_strictly_increasing}
 use Rattle.block_sums.proofs.Runs.{range_next}
 use Rattle.mesh_visits.specs.declared.visit.Visit.{Visit}
-use Rattle.sparsity.specs.Coupled.{CoupledDofs, has}
+use Rattle.sparsity.specs.Coupled.{CoupledDofs, has, rows_of}
 use Rattle.sparsity.proofs.Having.{rising_is_filter}
-use Rattle.mesh_loop.specs.Setup.{MeshProblem, cells_of, cell_visits, visit_masters, visit_rows, coupled_by, coupled_dofs, written_rows}
+use Rattle.mesh_loop.specs.Setup.{MeshProblem, cells_of, cell_visits, visit_masters, visit_rows, coupled_by, coupled_dofs, pattern_of, written_rows}
 use Rattle.mesh_loop.specs.Parts.{IsVisitBelow}
 
 abbrev pub coupled : ℕ → List (List ℕ) → CoupledDofs
@@ -102,3 +102,7 @@ pub cells_more : (s : MeshProblem) (cell : ℕ) (visits : List Visit) → visits
 cells_more s cell visits are before here =
     let P : ℕ → Type 0 = λ c. All (IsVisitBelow s c) (cell_visits s c) in
     below_more P cell before (subst (All (IsVisitBelow s cell)) are here)
+
+pub pattern_is : (s : MeshProblem) (couplings : CoupledDofs) (pattern : List (List ℕ)) → couplings ≡ coupled_dofs s → pattern ≡ rows_of couplings → pattern ≡ pattern_of s
+unfolding pattern_of
+pattern_is s couplings pattern are is = is ∙ ap rows_of are

@@ -39,8 +39,8 @@ has_below n (x ∷ xs) d h t = elim (cases_Bool (x == d)) [
 kept_behind : (p : ℕ → Bool) (x d : ℕ) (xs : List ℕ) → has (filter p xs) d ≡ true → has (filter p (x ∷ xs)) d ≡ true
 unfolding has
 kept_behind p x d xs h = elim (cases_Bool (p x)) [
-  | inl yes ↦ rw yes (or_right (x == d) (list_any (λ y. y == d) (filter p xs)) h)
-  | inr no ↦ rw no h
+  | inl here ↦ rw here (or_right (x == d) (list_any (λ y. y == d) (filter p xs)) h)
+  | inr gone ↦ rw gone h
 ]
 
 has_kept : (p : ℕ → Bool) (xs : List ℕ) (d : ℕ) → has xs d ≡ true → p d ≡ true → has (filter p xs) d ≡ true

@@ -1,4 +1,5 @@
 pub mod MasterSteps
 pub mod Gathering
 pub mod Holding
+pub mod Kept
 pub mod FirstFailure

@@ -62,13 +62,13 @@ masters_below_more lines n dofs k dof h at before after =
     (All-append P (masters_of lines (take k dofs)) (map (λ (term : Term). term.dof) (masters lines (slice_index_or dofs k dof))) before
     (All-map P (λ (term : Term). term.dof) (masters lines (slice_index_or dofs k dof)) (subst Q at after)))
 
-pub no_masters : (lines : Lines) (old : List ℕ) → old ≡ old ++ masters_of lines (take 0 [])
+pub no_masters : (lines : Lines) (old : List ℕ) → old ≡ old ++ masters_of lines []
 unfolding masters_of
 no_masters lines old = sym (append-nil old)
 
-pub none_below : (lines : Lines) (n : ℕ) (dofs : List ℕ) → All (λ d. d < n) (masters_of lines (take 0 dofs))
+pub none_below : (lines : Lines) (n : ℕ) → All (λ d. d < n) (masters_of lines [])
 unfolding masters_of
-none_below lines n dofs = All-nil (λ d. d < n)
+none_below lines n = All-nil (λ d. d < n)
 
 -- the dofs of a cell are below the number of dofs
 pub cell_below : (forest : RefinedMesh) (dofs : Numbering) (cell : ℕ) (row : List ℕ) → IsNumberingOf forest dofs → cell < length forest.cells → row ≡ slice_index_or dofs.cells cell [] → length row ≡ 4 →

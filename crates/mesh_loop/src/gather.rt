@@ -157,7 +157,8 @@ fn push_dofs(list: &mut Vec<u32>, source: &Source, cell: u32, visit: Visit) -> R
         }
         Visit::Interior { other, .. } => {
             push_cell_dofs(list, source, cell)?;
-            push_cell_dofs(list, source, other)
+            push_cell_dofs(list, source, other)?;
+            Ok(())
         }
     }
 }

@@ -30,7 +30,10 @@ fn push_line(list: &mut Vec<u32>, closed: &Closed, dof: u32) -> Result<(), NoMem
             list.push(dof)?;
             Ok(())
         }
-        Some((terms, _)) => push_terms(list, terms),
+        Some((terms, _)) => {
+            push_terms(list, terms)?;
+            Ok(())
+        }
     }
 }
 
