@@ -1,6 +1,8 @@
 ghost use Rattle.std.specs.Prelude.{◌≡◌, ◌<◌, ◌≤◌, ℕ, All, length, IfOk, IfErr, OnOk};
 ghost use Rattle.std.specs.List.Sorted.{IsStrictlyIncreasing};
 ghost use Rattle.cell_blocks.specs.Blocks.{cell_blocks};
+ghost use Rattle.cell_blocks.specs.Visited.{blocks_in};
+ghost use Rattle.cell_sums.specs.Parts.{HoldsAll};
 ghost use Rattle.dof_numbers.specs.Dofs.{IsNumberingOf};
 ghost use Rattle.sparsity.specs.Coupled.{pairs_of};
 ghost use Rattle.sparsity.specs.declared.fault.PatternFault.TheVariants.{Limit as AboveLimit};
@@ -116,11 +118,19 @@ impl Setup {
         &self.parts.pattern
     }
 
+    /// The closed lines.
+    pub(crate) fn closed(&self) -> &Closed
+        ensures { result.now ≡ self.now.closed }
+    {
+        &self.closed
+    }
+
     /// Makes the blocks of a cell. The copy object then stands for them, or for the fault of the first visit
     /// that has one, whatever it and the scratch object held before.
     pub fn blocks_of(&self, cell: u32, scratch: &mut CellScratch, copy: &mut CellCopy)
         requires { cell < length self.now.given.forest.cells }
-        ensures { copy.new ≡ cell_blocks self.now.flags self.now.given cell }
+        ensures value { copy.new ≡ cell_blocks self.now.flags self.now.given cell }
+        ensures held { HoldsAll (pattern_of self.now) self.now.closed (blocks_in copy.new) }
     {
         let setting = Setting {
             forest: &self.forest,
