@@ -73,3 +73,10 @@ copy_held s now cell copy view matched fit within made =
     let R : Result (List LocalBlock) LocalFault → Type 0 = λ r. HoldsAll (pattern_of now) now.closed (blocks_in r) in
     let inside : cell < length s.given.forest.cells = subst P (sym view) within in
     subst R (sym made) (subst Q view (cell_held s cell matched (fit cell inside) inside))
+
+-- held by what is equal
+pub held_by : (s : MeshProblem) (pattern : List (List ℕ)) (table : List (Option AffineLine)) (blocks : List LocalBlock) → pattern ≡ pattern_of s → table ≡ s.closed → HoldsAll (pattern_of s) s.closed blocks → HoldsAll pattern table blocks
+held_by s pattern table blocks is closed held =
+    let P : List (List ℕ) → Type 0 = λ p. HoldsAll p table blocks in
+    let Q : List (Option AffineLine) → Type 0 = λ t. HoldsAll (pattern_of s) t blocks in
+    subst P (sym is) (subst Q (sym closed) held)

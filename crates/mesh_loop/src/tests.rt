@@ -83,9 +83,7 @@ fn a_hanging_corner_adds_to_the_rows_of_its_masters(rt: HostRuntime) -> Result<(
     assert_eq!(rt; setup.rows(1), [1u32, 3, 4, 5, 6].as_slice());
     assert_eq!(rt; setup.pattern().size(), 11);
     assert_eq!(rt; setup.pattern().entries(), 57);
-    let rows = assemble_serial(rt.alloc(), &setup, 0)
-        .ok()
-        .ok_or("rows")?;
+    let rows = assemble_serial(rt.alloc(), &setup, 0).ok().ok_or("rows")?;
     assert_eq!(rt; entry(&setup, &rows, 5, 5), 5_726_681_536i128);
     assert_eq!(rt; entry(&setup, &rows, 1, 1), 6_442_494_800i128);
     assert_eq!(rt; entry(&setup, &rows, 1, 3), -43_856i128);
