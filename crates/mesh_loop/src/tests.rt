@@ -1,11 +1,14 @@
+ghost use Rattle.std.specs.Prelude.{◌≡◌, IfOk, length};
+ghost use Rattle.dof_numbers.specs.Dofs.{IsNumberingOf};
+
 use crate::{Flags, Interior, Setup, Visit, assemble_serial, conflicts};
-use affine_constraints::LineSet;
+use affine_constraints::{Closed, LineSet};
 use dof_numbers::Dofs;
 use fem_fixed::{Point, QuadSpec};
 use hanging_refine::Forest;
 use problem_read::read_problem;
 use quad_mesh::QuadMesh;
-use sparsity::Rows;
+use sparsity::{Pattern, Rows};
 use std::process::Abort;
 use std::test::Fail;
 use std::thread::Threads;
@@ -41,52 +44,92 @@ fn divided_strip<R: Abort + AllocGlobal>(rt: &R) -> Result<Forest, Fail> {
     Ok(forest)
 }
 
-/// The set-up on the strip, with the lines of its hanging corner.
-fn made<R: Abort + Threads + Sync + AllocGlobal>(rt: &R, flags: Flags) -> Result<Setup, Fail> {
-    let forest = divided_strip(rt)?;
-    let dofs = Dofs::number(rt.alloc(), &forest)?;
-    let mut lines = LineSet::new(rt.alloc(), dofs.size())?;
-    dofs.hanging(rt.alloc(), &forest, &mut lines)
-        .ok()
-        .ok_or("lines")?;
-    let closed = lines.close().ok().ok_or("closed lines")?;
-    let problem = read_problem(rt.alloc(), b"").ok().ok_or("a problem")?;
-    let setup = Setup::build(rt, rt.alloc(), forest, dofs, closed, problem, flags)
-        .ok()
-        .ok_or("a set-up")?;
-    Ok(setup)
-}
-
-/// The entry of a matrix at a pair of dofs; 0 where there is none.
-fn entry(setup: &Setup, rows: &Rows, i: u32, j: u32) -> i128 {
-    if i >= setup.pattern().size() || i >= rows.size() {
-        return 0;
-    }
-    match setup.pattern().place(i, j) {
-        Some(place) if place < rows.get(i).values.len() => rows.get(i).values.get(place),
-        _ => 0,
+/// The lines of the hanging corners, closed.
+fn closed_lines<R: Abort + AllocGlobal>(
+    rt: &R,
+    forest: &Forest,
+    dofs: &Dofs,
+) -> Result<Closed, Fail>
+    requires { IsNumberingOf forest.now dofs.now }
+    ensures { IfOk result (λ closed. length closed ≡ dofs.now.size) }
+{
+    let mut lines = match LineSet::new(rt.alloc(), dofs.size()) {
+        Ok(lines) => lines,
+        Err(_) => return Err("lines")?,
+    };
+    let added = dofs.hanging(rt.alloc(), forest, &mut lines);
+    assert_eq!(rt; added, Ok(()));
+    match lines.close() {
+        Ok(closed) => Ok(closed),
+        Err(_) => Err("closed lines")?,
     }
 }
 
-#[test]
-fn a_hanging_corner_adds_to_the_rows_of_its_masters(rt: HostRuntime) -> Result<(), Fail> {
+/// The set-up on the strip, with the lines of its hanging corner. Only cells are visited.
+fn made<R: Abort + Threads + Sync + AllocGlobal>(rt: &R) -> Result<Setup, Fail> {
     let flags = Flags {
         cells: true,
         boundary: false,
         interior: Interior::None,
         cells_after_faces: false,
     };
-    let setup = made(&rt, flags)?;
-    assert!(rt; setup.cells() == 5);
-    assert!(rt; setup.visits(1) == [Visit::Cell].as_slice());
-    assert_eq!(rt; setup.rows(0), [0u32, 1, 2, 3].as_slice());
-    assert_eq!(rt; setup.rows(1), [1u32, 3, 4, 5, 6].as_slice());
-    assert_eq!(rt; setup.pattern().size(), 11);
-    assert_eq!(rt; setup.pattern().entries(), 57);
-    let rows = assemble_serial(rt.alloc(), &setup, 0).ok().ok_or("rows")?;
-    assert_eq!(rt; entry(&setup, &rows, 5, 5), 5_726_681_536i128);
-    assert_eq!(rt; entry(&setup, &rows, 1, 1), 6_442_494_800i128);
-    assert_eq!(rt; entry(&setup, &rows, 1, 3), -43_856i128);
+    let forest = divided_strip(rt)?;
+    let dofs = match Dofs::number(rt.alloc(), &forest) {
+        Ok(dofs) => dofs,
+        Err(_) => return Err("dofs")?,
+    };
+    let closed = closed_lines(rt, &forest, &dofs)?;
+    let problem = read_problem(rt.alloc(), b"").ok().ok_or("a problem")?;
+    match Setup::build(rt, rt.alloc(), forest, dofs, closed, problem, flags) {
+        Ok(setup) => Ok(setup),
+        Err(_) => Err("a set-up")?,
+    }
+}
+
+/// The visits and the written rows of a cell are these.
+fn assert_cell<R: Abort>(rt: &R, setup: &Setup, cell: u32, visits: &[Visit], rows: &[u32]) {
+    assert!(rt; cell < setup.cells());
+    assert!(rt; setup.visits(cell) == visits);
+    assert_eq!(rt; setup.rows(cell), rows);
+}
+
+/// The entry of a matrix at a pair of dofs; 0 where there is none.
+fn entry(pattern: &Pattern, rows: &Rows, i: u32, j: u32) -> i128 {
+    if i >= pattern.size() || i >= rows.size() {
+        return 0;
+    }
+    let values = &rows.get(i).values;
+    match pattern.place(i, j) {
+        Some(place) => {
+            if place < values.len() {
+                values.get(place)
+            } else {
+                0
+            }
+        }
+        None => 0,
+    }
+}
+
+/// The serial sum, all digits kept.
+fn summed<R: Abort + AllocGlobal>(rt: &R, setup: &Setup) -> Result<Rows, Fail> {
+    match assemble_serial(rt.alloc(), setup, 0) {
+        Ok(rows) => Ok(rows),
+        Err(_) => Err("rows")?,
+    }
+}
+
+#[test]
+fn a_hanging_corner_adds_to_the_rows_of_its_masters(rt: HostRuntime) -> Result<(), Fail> {
+    let setup = made(&rt)?;
+    assert_cell(&rt, &setup, 0, &[Visit::Cell], &[0, 1, 2, 3]);
+    assert_cell(&rt, &setup, 1, &[Visit::Cell], &[1, 3, 4, 5, 6]);
+    let pattern = setup.pattern();
+    assert_eq!(rt; pattern.entries(), 57);
+    let rows = summed(&rt, &setup)?;
+    assert_eq!(rt; entry(pattern, &rows, 5, 5), 5_726_681_536i128);
+    assert_eq!(rt; entry(pattern, &rows, 1, 1), 6_442_494_800i128);
+    assert_eq!(rt; entry(pattern, &rows, 1, 3), -43_856i128);
     assert!(rt; conflicts(rt.alloc(), &setup).is_ok());
     Ok(())
 }
