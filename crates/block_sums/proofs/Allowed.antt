@@ -100,3 +100,28 @@ one_small table (Some line) form = record { weights = λ k d inside. (form.withi
 
 pub closed_small : (table : List (Option AffineLine)) → AreClosedForms table → AreSmallLines (lines_in table)
 closed_small table forms dof = one_small table (lines_in table dof) (forms dof)
+
+-- the contributions of one master go to its row
+unless_zero_row : (m : ℕ) (zero : Bool) (c : Contribution) → c.row ≡ m → All (λ (c : Contribution). c.row ≡ m) (cond zero [] (c ∷ []))
+unless_zero_row m true c h = All-nil (λ (c : Contribution). c.row ≡ m)
+unless_zero_row m false c h = All-cons (λ (c : Contribution). c.row ≡ m) c [] h (All-nil (λ (c : Contribution). c.row ≡ m))
+
+column_rows : (lines : Lines) (master : Term) (entry : ℤ) (dof : ℕ) → All (λ (c : Contribution). c.row ≡ master.dof) (column_terms lines master entry dof)
+column_rows lines master entry dof =
+    All-append (λ (c : Contribution). c.row ≡ master.dof) (map (λ (other : Term). to master.dof (Column other.dof) (entry_share master.weight entry other.weight)) (masters lines dof))
+    (constant_terms master.dof master.weight entry (constant_of lines dof))
+    (All-map (λ (c : Contribution). c.row ≡ master.dof) (λ (other : Term). to master.dof (Column other.dof) (entry_share master.weight entry other.weight)) (masters lines dof) (λ k d inside. refl))
+    (unless_zero_row master.dof (is_zero (constant_of lines dof)) (to master.dof RightSide (constant_share master.weight entry (constant_of lines dof))) refl)
+
+pub master_rows : (lines : Lines) (block : LocalBlock) (i : ℕ) (master : Term) → All (λ (c : Contribution). c.row ≡ master.dof) (master_terms lines block i master)
+unfolding master_terms
+master_rows lines block i master =
+    All-cons (λ (c : Contribution). c.row ≡ master.dof) (to master.dof RightSide (load_share master.weight (load_at block i)))
+    (flat_map (λ j. column_terms lines master (entry_at block i j) (dof_at block j)) (numbers block)) refl
+    (all_range (λ (c : Contribution). c.row ≡ master.dof) (λ j. column_terms lines master (entry_at block i j) (dof_at block j)) (length block.dofs) (λ j within.
+    column_rows lines master (entry_at block i j) (dof_at block j)))
+
+pub own_rows : (dof size : ℕ) (constant : ℤ) → All (λ (c : Contribution). c.row ≡ dof) (own_terms dof size constant)
+own_rows dof size constant =
+    All-cons (λ (c : Contribution). c.row ≡ dof) (to dof (Column dof) (pos size)) (to dof RightSide (load_share constant (pos size)) ∷ []) refl
+    (All-cons (λ (c : Contribution). c.row ≡ dof) (to dof RightSide (load_share constant (pos size))) [] refl (All-nil (λ (c : Contribution). c.row ≡ dof)))

@@ -2,3 +2,4 @@ pub mod Runs
 pub mod Values
 pub mod Sizes
 pub mod Allowed
+pub mod RowRuns

@@ -41,10 +41,10 @@ both_add system rows middle now least between lower xs ys a b = record {
 pub same_adds : (system : System) (rows now : List Row) (least lower : Option ℕ) (xs ys : List Contribution) → xs ≡ ys → Adds system rows least now lower xs → Adds system rows least now lower ys
 same_adds system rows now least lower xs ys e a = rw (← e) a
 
-map_more : {A : Type 0} (f : A → Contribution) (xs : List A) (k : ℕ) (d : A) → k < length xs → map f (take (k + 1) xs) ≡ map f (take k xs) ++ f (slice_index_or xs k d) ∷ []
+pub map_more : {A : Type 0} (f : A → Contribution) (xs : List A) (k : ℕ) (d : A) → k < length xs → map f (take (k + 1) xs) ≡ map f (take k xs) ++ f (slice_index_or xs k d) ∷ []
 map_more f xs k d h = ap (map f) (take_more xs k d h) ∙ map-append f (take k xs) (slice_index_or xs k d ∷ [])
 
-flat_more : {A : Type 0} (f : A → List Contribution) (xs : List A) (k : ℕ) (d : A) → k < length xs → flat_map f (take (k + 1) xs) ≡ flat_map f (take k xs) ++ f (slice_index_or xs k d)
+pub flat_more : {A : Type 0} (f : A → List Contribution) (xs : List A) (k : ℕ) (d : A) → k < length xs → flat_map f (take (k + 1) xs) ≡ flat_map f (take k xs) ++ f (slice_index_or xs k d)
 flat_more f xs k d h =
     ap (flat_map f) (take_more xs k d h) ∙ flat_map-append f (take k xs) (slice_index_or xs k d ∷ []) ∙ ap (λ ys. flat_map f (take k xs) ++ ys) (append-nil (f (slice_index_or xs k d)))
 

@@ -3,3 +3,4 @@ pub mod Masters
 pub mod Contributions
 pub mod Adding
 pub mod SmallLines
+pub mod RowAdding

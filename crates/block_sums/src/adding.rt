@@ -18,7 +18,7 @@ use serial_sum::{Contribution, Target, add_contribution};
 use sparsity::Rows;
 
 /// A free dof's weight as its own master: one, in ticks.
-const UNIT_WEIGHT: i64 = 65_536;
+pub(crate) const UNIT_WEIGHT: i64 = 65_536;
 
 /// Adds the contributions of a block to the rows, one after another. A sum above 2^80 in size isn't added. The
 /// least row with such a sum so far comes in and goes out, so that the blocks of a cell are added one by one.

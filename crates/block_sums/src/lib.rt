@@ -4,9 +4,11 @@
 
 mod adding;
 mod laws;
+mod row_adding;
 mod shares;
 mod system;
 
 pub use adding::add_block;
 pub use laws::{closed_lines_are_small, contributions_may_be_added};
+pub use row_adding::add_block_to_row;
 pub use system::System;

@@ -5,6 +5,8 @@
 
 mod adding;
 mod laws;
+mod row_writing;
 
 pub use adding::{add_cell, add_cell_to_state};
 pub use laws::parts_may_be_added;
+pub use row_writing::write_row;

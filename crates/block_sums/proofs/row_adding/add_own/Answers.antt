@@ -1,0 +1,30 @@
+use Rattle.std.proofs.Common.{◌≡◌, ◌∙◌, ◌<◌, ◌≤◌, ◌^◌, ◌∷◌, [], ap, ℕ, ℤ, pos, FitsSigned, to_z, of_z, w64, arith}
+use Rattle.std.specs.Prelude.{unsigned_abs}
+use Rattle.std.specs.Int.{w128}
+use Rattle.std.proofs.lemmas.Int.{to_z-of_z, to_z_pos}
+use Rattle.serial_sum.specs.declared.part.Target.TheVariants.{Column, RightSide}
+use Rattle.block_sums.specs.Contributions.{to, own_terms}
+use Rattle.block_sums.specs.Shares.{load_share}
+use Rattle.block_sums.specs.RowAdding.{AddsToRow}
+use Rattle.block_sums.proofs.RowRuns.{one_adds, both_add}
+use Rattle.block_sums.proofs.Values.{fits_weight, fits_share}
+use Rattle.block_sums.proofs.row_adding.add_own.Goals as goal
+
+pub returns : goal.returns
+returns c =
+    let diagonal : FitsSigned w128 c.args.diagonal = fits_share c.args.diagonal (omega (arith, c.requires.diagonal)) in
+    let constant : FitsSigned w64 c.args.constant = fits_weight c.args.constant c.requires.constant in
+    let share : FitsSigned w128 c.load_share.result = record { sfits = c.load_share.type_inv } in
+    let size : c.unsigned_abs-size.result ≡ unsigned_abs c.args.diagonal = simp to_z-of_z at c.unsigned_abs-size.ensures.value in
+    let small : c.unsigned_abs-size.result < 170141183460469231731687303715884105728 = omega (arith, size, c.requires.diagonal) in
+    let whole : to_z w128 c.unsigned_abs-size.result ≡ pos (unsigned_abs c.args.diagonal) = to_z_pos w128 c.unsigned_abs-size.result small ∙ ap pos size in
+    let told : c.load_share.result ≡ load_share c.args.constant (to_z w128 c.unsigned_abs-size.result) = simp to_z-of_z at c.load_share.ensures.value in
+    let value : to_z w128 (of_z w128 c.load_share.result) ≡ load_share c.args.constant (pos (unsigned_abs c.args.diagonal)) = simp to_z-of_z (told ∙ ap (load_share c.args.constant) whole) in
+    let own : AddsToRow c.args.system.now c.args.dof c.args.row.now c.args.all c.put-all.new.row c.put-all.result (to c.args.dof (Column c.args.dof) (pos (unsigned_abs c.args.diagonal)) ∷ []) =
+    one_adds c.args.system.now c.args.dof c.args.row.now c.put-all.new.row c.args.all c.put-all.result (to c.args.dof (Column c.args.dof) (to_z w128 c.unsigned_abs-size.result))
+    (to c.args.dof (Column c.args.dof) (pos (unsigned_abs c.args.diagonal))) (ap (λ (v : ℤ). to c.args.dof (Column c.args.dof) v) whole) c.put-all.ensures in
+    let side : AddsToRow c.args.system.now c.args.dof c.put-all.new.row c.put-all.result c.put.new.row c.put.result (to c.args.dof RightSide (load_share c.args.constant (pos (unsigned_abs c.args.diagonal))) ∷ []) =
+    one_adds c.args.system.now c.args.dof c.put-all.new.row c.put.new.row c.put-all.result c.put.result (to c.args.dof RightSide (to_z w128 (of_z w128 c.load_share.result)))
+    (to c.args.dof RightSide (load_share c.args.constant (pos (unsigned_abs c.args.diagonal)))) (ap (λ (v : ℤ). to c.args.dof RightSide v) value) c.put.ensures in
+    both_add c.args.system.now c.args.dof c.args.row.now c.put-all.new.row c.put.new.row c.args.all c.put-all.result c.put.result
+    (to c.args.dof (Column c.args.dof) (pos (unsigned_abs c.args.diagonal)) ∷ []) (to c.args.dof RightSide (load_share c.args.constant (pos (unsigned_abs c.args.diagonal))) ∷ []) own side
