@@ -18,7 +18,7 @@ use Rattle.mesh_loop.specs.Setup.{MeshProblem, cells_of, cell_visits, masters_of
 use Rattle.mesh_loop.specs.Parts.{IsVisitBelow}
 
 -- a test that some element passes
-any_flat : {A B : Type 0} (p : B → Bool) (f : A → List B) (xs : List A) (i : ℕ) (d : A) → i < length xs → list_any p (f (slice_index_or xs i d)) ≡ true → list_any p (flat_map f xs) ≡ true
+pub any_flat : {A B : Type 0} (p : B → Bool) (f : A → List B) (xs : List A) (i : ℕ) (d : A) → i < length xs → list_any p (f (slice_index_or xs i d)) ≡ true → list_any p (flat_map f xs) ≡ true
 any_flat p f [] i d h t = absurd (omega (arith, h))
 any_flat p f (x ∷ xs) zero d h t = list_any-append p (f x) (flat_map f xs) ∙ or_left (list_any p (f x)) (list_any p (flat_map f xs)) t
 any_flat p f (x ∷ xs) (suc i) d h t = list_any-append p (f x) (flat_map f xs) ∙ or_right (list_any p (f x)) (list_any p (flat_map f xs)) (any_flat p f xs i d (omega (arith, h)) t)
@@ -28,7 +28,7 @@ any_map p f [] = refl
 any_map p f (x ∷ xs) = ap (λ b. p (f x) || b) (any_map p f xs)
 
 -- a number of a list
-has_below : (n : ℕ) (xs : List ℕ) (d : ℕ) → All (λ x. x < n) xs → has xs d ≡ true → d < n
+pub has_below : (n : ℕ) (xs : List ℕ) (d : ℕ) → All (λ x. x < n) xs → has xs d ≡ true → d < n
 unfolding has
 has_below n [] d h t = cc
 has_below n (x ∷ xs) d h t = elim (cases_Bool (x == d)) [
@@ -43,7 +43,7 @@ kept_behind p x d xs h = elim (cases_Bool (p x)) [
   | inr gone ↦ rw gone h
 ]
 
-has_kept : (p : ℕ → Bool) (xs : List ℕ) (d : ℕ) → has xs d ≡ true → p d ≡ true → has (filter p xs) d ≡ true
+pub has_kept : (p : ℕ → Bool) (xs : List ℕ) (d : ℕ) → has xs d ≡ true → p d ≡ true → has (filter p xs) d ≡ true
 unfolding has
 has_kept p [] d t passes = t
 has_kept p (x ∷ xs) d t passes = elim (cases_Bool (x == d)) [
@@ -51,7 +51,7 @@ has_kept p (x ∷ xs) d t passes = elim (cases_Bool (x == d)) [
   | inr apart ↦ kept_behind p x d xs (has_kept p xs d (rw apart at t) passes)
 ]
 
-has_range : (n d : ℕ) → d < n → has (range_with_len 0 n) d ≡ true
+pub has_range : (n d : ℕ) → d < n → has (range_with_len 0 n) d ≡ true
 unfolding has
 has_range n d h = list_any_at (λ x. x == d) (range_with_len 0 n) d 0 (omega (arith, h, length-range_with_len 0 n)) (eq-eqb (slice_index_or (range_with_len 0 n) d 0) d (omega (arith, get_or-range_with_len 0 n d 0 h)))
 
@@ -83,7 +83,7 @@ unfolding is_coupled
 same_couple lists i = or_left (i == i) (share_list lists i i) (eq-eqb i i refl)
 
 -- masters of a dof are among those of all dofs
-has_master : (lines : Lines) (dofs : List ℕ) (i d : ℕ) (k : ℕ) (m : Term) → i < length dofs → k < length (masters lines (slice_index_or dofs i d)) →
+pub has_master : (lines : Lines) (dofs : List ℕ) (i d : ℕ) (k : ℕ) (m : Term) → i < length dofs → k < length (masters lines (slice_index_or dofs i d)) →
     has (masters_of lines dofs) (slice_index_or (masters lines (slice_index_or dofs i d)) k m).dof ≡ true
 unfolding has masters_of
 has_master lines dofs i d k m hi hk =

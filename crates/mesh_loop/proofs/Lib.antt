@@ -5,3 +5,4 @@ pub mod Kept
 pub mod Held
 pub mod FirstFailure
 pub mod Summing
+pub mod OwnRows
