@@ -1,0 +1,86 @@
+-- The blocks of a cell are held by the pattern.
+use Rattle.std.proofs.Common.{◌≡◌, sym, ap, subst, ℕ, ◌<◌, List, [], ◌∷◌, length, map, slice_index_or}
+use Rattle.std.specs.List.{All}
+use Rattle.std.specs.declared.option.Option.{Option}
+use Rattle.std.specs.declared.result.Result.{Result}
+use Rattle.std.specs.declared.result.Result.TheVariants.{Ok, Err}
+use Rattle.std.proofs.lemmas.List.Elements.{All-nil, All-cons, All-head, All-tail, All-weaker}
+use Rattle.affine_constraints.specs.Lines.{AffineLine, lines_in}
+use Rattle.block_sums.specs.Masters.{Holds}
+use Rattle.cell_blocks.specs.Blocks.{Given, visit_dofs, visit_form, with_dofs, block_of, blocks_of, all_blocks, in_front, cell_blocks}
+use Rattle.cell_blocks.specs.Visited.{blocks_in}
+use Rattle.cell_sums.specs.Parts.{IsHeld, HoldsAll}
+use Rattle.fixed_q1.specs.declared.fault.LocalFault.{LocalFault}
+use Rattle.fixed_q1.specs.LocalForm.{LocalForm}
+use Rattle.local_blocks.specs.Blocks.{LocalBlock}
+use Rattle.mesh_visits.specs.declared.visit.Visit.{Visit}
+use Rattle.mesh_loop.specs.Setup.{MeshProblem, IsMatched, cell_visits, pattern_of, HoldsVisit}
+use Rattle.mesh_loop.specs.Parts.{IsVisitBelow, IsCellFit}
+use Rattle.mesh_loop.proofs.Holding.{all_hold}
+
+-- what holds of the dofs of each visit holds of the dofs of each block
+abbrev HasDofs : (List ℕ → Type 0) → Result LocalBlock LocalFault → Type 0
+HasDofs P (Ok block) = P block.dofs
+HasDofs P (Err fault) = Unit {0}
+
+form_has : (P : List ℕ → Type 0) (dofs : List ℕ) (form : Result LocalForm LocalFault) → P dofs → HasDofs P (with_dofs dofs form)
+form_has P dofs (Ok form) h = h
+form_has P dofs (Err fault) h = tt
+
+block_has : (P : List ℕ → Type 0) (given : Given) (cell : ℕ) (visit : Visit) → P (visit_dofs given cell visit) → HasDofs P (block_of given cell visit)
+unfolding block_of
+block_has P given cell visit h = form_has P (visit_dofs given cell visit) (visit_form given cell visit) h
+
+front_has : (P : List ℕ → Type 0) (block : Result LocalBlock LocalFault) (blocks : Result (List LocalBlock) LocalFault) → HasDofs P block → All (λ (b : LocalBlock). P b.dofs) (blocks_in blocks) →
+    All (λ (b : LocalBlock). P b.dofs) (blocks_in (in_front block blocks))
+front_has P (Ok block) (Ok blocks) one rest = All-cons (λ (b : LocalBlock). P b.dofs) block blocks one rest
+front_has P (Ok block) (Err fault) one rest = All-nil (λ (b : LocalBlock). P b.dofs)
+front_has P (Err fault) blocks one rest = All-nil (λ (b : LocalBlock). P b.dofs)
+
+all_have : (P : List ℕ → Type 0) (given : Given) (cell : ℕ) (visits : List Visit) → All (λ visit. P (visit_dofs given cell visit)) visits → All (λ (b : LocalBlock). P b.dofs) (blocks_in (all_blocks (map (block_of given cell) visits)))
+all_have P given cell [] h = All-nil (λ (b : LocalBlock). P b.dofs)
+all_have P given cell (visit ∷ visits) h =
+    front_has P (block_of given cell visit) (all_blocks (map (block_of given cell) visits)) (block_has P given cell visit (All-head (λ (v : Visit). P (visit_dofs given cell v)) visit visits h))
+    (all_have P given cell visits (All-tail (λ (v : Visit). P (visit_dofs given cell v)) visit visits h))
+
+pub blocks_have : (P : List ℕ → Type 0) (given : Given) (cell : ℕ) (visits : List Visit) → All (λ visit. P (visit_dofs given cell visit)) visits → All (λ (b : LocalBlock). P b.dofs) (blocks_in (blocks_of given cell visits))
+unfolding blocks_of
+blocks_have P given cell visits h = all_have P given cell visits h
+
+-- dofs that have a place in the table of lines, with masters that the pattern couples
+record AreHeld (pattern : List (List ℕ)) (table : List (Option AffineLine)) (dofs : List ℕ) : Type 0 where
+  places : All (λ dof. dof < length table) dofs
+  pairs : Holds pattern (lines_in table) dofs
+
+all_held : (pattern : List (List ℕ)) (table : List (Option AffineLine)) (given : Given) (cell : ℕ) (visits : List Visit) → All (λ visit. AreHeld pattern table (visit_dofs given cell visit)) visits →
+    HoldsAll pattern table (blocks_in (blocks_of given cell visits))
+all_held pattern table given cell visits held =
+    All-weaker (λ (b : LocalBlock). AreHeld pattern table b.dofs) (IsHeld pattern table) (λ b h. record { dofs = h.places; pairs = h.pairs }) (blocks_in (blocks_of given cell visits))
+    (blocks_have (AreHeld pattern table) given cell visits held)
+
+one_held : (s : MeshProblem) (cell : ℕ) (visit : Visit) → IsMatched s → IsVisitBelow s cell visit → HoldsVisit s cell visit → AreHeld (pattern_of s) s.closed (visit_dofs s.given cell visit)
+one_held s cell visit matched below holds = record {
+  places = (let P : ℕ → Type 0 = λ n. All (λ dof. dof < n) (visit_dofs s.given cell visit) in subst P (sym matched.lines) below.dofs);
+  pairs = holds;
+}
+
+cell_held : (s : MeshProblem) (cell : ℕ) → IsMatched s → IsCellFit s cell → cell < length s.given.forest.cells → HoldsAll (pattern_of s) s.closed (blocks_in (cell_blocks s.flags s.given cell))
+cell_held s cell matched fit within =
+    let hold = all_hold s cell within fit.below in
+    all_held (pattern_of s) s.closed s.given cell (cell_visits s cell) (λ k v h. one_held s cell (slice_index_or (cell_visits s cell) k v) matched (fit.below k v h) (hold k v h))
+
+pub copy_held : (s now : MeshProblem) (cell : ℕ) (copy : Result (List LocalBlock) LocalFault) → s ≡ now → IsMatched s → ((c : ℕ) → c < length s.given.forest.cells → IsCellFit s c) → cell < length now.given.forest.cells →
+    copy ≡ cell_blocks now.flags now.given cell → HoldsAll (pattern_of now) now.closed (blocks_in copy)
+copy_held s now cell copy view matched fit within made =
+    let P : MeshProblem → Type 0 = λ t. cell < length t.given.forest.cells in
+    let Q : MeshProblem → Type 0 = λ t. HoldsAll (pattern_of t) t.closed (blocks_in (cell_blocks t.flags t.given cell)) in
+    let R : Result (List LocalBlock) LocalFault → Type 0 = λ r. HoldsAll (pattern_of now) now.closed (blocks_in r) in
+    let inside : cell < length s.given.forest.cells = subst P (sym view) within in
+    subst R (sym made) (subst Q view (cell_held s cell matched (fit cell inside) inside))
+
+-- held by what is equal
+pub held_by : (s : MeshProblem) (pattern : List (List ℕ)) (table : List (Option AffineLine)) (blocks : List LocalBlock) → pattern ≡ pattern_of s → table ≡ s.closed → HoldsAll (pattern_of s) s.closed blocks → HoldsAll pattern table blocks
+held_by s pattern table blocks is closed held =
+    let P : List (List ℕ) → Type 0 = λ p. HoldsAll p table blocks in
+    let Q : List (Option AffineLine) → Type 0 = λ t. HoldsAll (pattern_of s) t blocks in
+    subst P (sym is) (subst Q (sym closed) held)

@@ -1,0 +1,152 @@
+ghost use Rattle.std.specs.Prelude.{◌≡◌, ◌<◌, ◌≤◌, ℕ, true, All, length, IfOk, IfErr, OnOk};
+ghost use Rattle.std.specs.List.Sorted.{IsStrictlyIncreasing};
+ghost use Rattle.cell_blocks.specs.Blocks.{cell_blocks};
+ghost use Rattle.cell_blocks.specs.Visited.{blocks_in};
+ghost use Rattle.cell_sums.specs.Parts.{HoldsAll};
+ghost use Rattle.dof_numbers.specs.Dofs.{IsNumberingOf};
+ghost use Rattle.serial_sum.specs.declared.part.Contribution.{Contribution};
+ghost use Rattle.sparsity.specs.Coupled.{has, pairs_of};
+ghost use Rattle.sparsity.specs.declared.fault.PatternFault.TheVariants.{Limit as AboveLimit};
+ghost use Rattle.mesh_loop.specs.Setup.{MeshProblem, cell_visits, coupled_dofs, pattern_of, written_rows, HoldsVisit};
+ghost use Rattle.mesh_loop.specs.Sum.{part_of};
+
+use crate::gather::{Parts, make_parts};
+use crate::source::Source;
+use affine_constraints::Closed;
+use cell_blocks::{CellCopy, CellScratch, Setting, fill_blocks};
+use dof_numbers::Dofs;
+use hanging_refine::Forest;
+use mesh_visits::{Flags, Visit};
+use problem_read::Problem;
+use sparsity::{Pattern, PatternFault};
+use std::alloc::Global;
+use std::marker::Model;
+use std::thread::Threads;
+
+/// A refined mesh with its dofs, closed lines, coefficients and flags, and what comes of them: the visits of
+/// each cell, the rows that a cell writes, and the pattern of the system. Contracts see what it is made of.
+#[derive(Drop)]
+pub struct Setup {
+    forest: Forest,
+    dofs: Dofs,
+    closed: Closed,
+    problem: Problem,
+    flags: Flags,
+    parts: Parts,
+}
+
+impl Model for Setup {
+    ghost use Rattle.mesh_loop.specs.Setup.{MeshProblem};
+
+    ghost Value = { MeshProblem };
+
+    ghost use Rattle.mesh_loop.specs.Parts.{ArePartsOf};
+
+    ghost view = { λ a. record { given = record { forest = a.forest; dofs = a.dofs; problem = a.problem }; closed = a.closed; flags = a.flags } };
+
+    ghost invariant = { λ a. ArePartsOf (record { given = record { forest = a.forest; dofs = a.dofs; problem = a.problem }; closed = a.closed; flags = a.flags }) a.parts };
+}
+
+impl Setup {
+    /// A set-up. It takes one pass over the cells, and the rows of the pattern are made in several threads.
+    ///
+    /// # Errors
+    ///
+    /// `Limit` where the pattern has more than 33,554,432 pairs.
+    pub fn build(
+        rt: &(impl Threads + Sync),
+        alloc: Global,
+        forest: Forest,
+        dofs: Dofs,
+        closed: Closed,
+        problem: Problem,
+        flags: Flags,
+    ) -> Result<Setup, PatternFault>
+        requires numbered { IsNumberingOf forest dofs }
+        requires lines { length closed ≡ dofs.size }
+        ensures value { IfOk result (λ setup. setup ≡ record { given = record { forest = forest; dofs = dofs; problem = problem }; closed = closed; flags = flags }) }
+        ensures within { OnOk result (pairs_of (coupled_dofs (record { given = record { forest = forest; dofs = dofs; problem = problem }; closed = closed; flags = flags })) ≤ 33554432) }
+        ensures limit { IfErr result (λ fault. fault ≡ AboveLimit → 33554432 < pairs_of (coupled_dofs (record { given = record { forest = forest; dofs = dofs; problem = problem }; closed = closed; flags = flags }))) }
+    {
+        let source = Source {
+            setting: Setting {
+                forest: &forest,
+                dofs: &dofs,
+                problem: &problem,
+            },
+            closed: &closed,
+            flags,
+        };
+        let parts = make_parts(rt, alloc, &source)?;
+        Ok(Setup {
+            forest,
+            dofs,
+            closed,
+            problem,
+            flags,
+            parts,
+        })
+    }
+
+    /// How many active cells there are.
+    pub fn cells(&self) -> u32
+        ensures { result ≡ length self.now.given.forest.cells }
+    {
+        self.forest.cells()
+    }
+
+    /// The visits of a cell, in order.
+    pub fn visits(&self, cell: u32) -> &[Visit]
+        requires { cell < length self.now.given.forest.cells }
+        ensures value { result.now ≡ cell_visits self.now cell }
+        ensures held { All (HoldsVisit self.now cell) result.now }
+    {
+        self.parts.visits.get(cell as usize)
+    }
+
+    /// The rows that a cell writes: the dofs of its visits and their masters, rising, each once. Each
+    /// contribution of the cell goes to one of them.
+    pub fn rows(&self, cell: u32) -> &[u32]
+        requires { cell < length self.now.given.forest.cells }
+        ensures value { result.now ≡ written_rows self.now cell }
+        ensures rising { IsStrictlyIncreasing result.now }
+        ensures own { All (λ (given : Contribution). has result.now given.row ≡ true) (part_of self.now cell).list }
+    {
+        self.parts.rows.get(cell as usize)
+    }
+
+    /// The pattern of the system.
+    pub fn pattern(&self) -> &Pattern
+        ensures { result.now ≡ pattern_of self.now }
+    {
+        &self.parts.pattern
+    }
+
+    /// The closed lines.
+    pub(crate) fn closed(&self) -> &Closed
+        ensures { result.now ≡ self.now.closed }
+    {
+        &self.closed
+    }
+
+    /// Makes the blocks of a cell. The copy object then stands for them, or for the fault of the first visit
+    /// that has one, whatever it and the scratch object held before.
+    pub fn blocks_of(&self, cell: u32, scratch: &mut CellScratch, copy: &mut CellCopy)
+        requires { cell < length self.now.given.forest.cells }
+        ensures value { copy.new ≡ cell_blocks self.now.flags self.now.given cell }
+        ensures held { HoldsAll (pattern_of self.now) self.now.closed (blocks_in copy.new) }
+    {
+        let setting = Setting {
+            forest: &self.forest,
+            dofs: &self.dofs,
+            problem: &self.problem,
+        };
+        fill_blocks(
+            &setting,
+            cell,
+            self.parts.visits.get(cell as usize),
+            scratch,
+            copy,
+        );
+    }
+}
