@@ -1,0 +1,4 @@
+pub mod StepLaws
+pub mod OuterFaces
+pub mod LeastLaws
+pub mod LineLaws
