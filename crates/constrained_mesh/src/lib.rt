@@ -5,6 +5,7 @@
 mod closed_lines;
 mod dirichlet;
 mod fault;
+mod laws;
 mod mesh_lines;
 mod nodes;
 mod refinement;
@@ -12,4 +13,5 @@ mod ties;
 
 pub use closed_lines::constraint_lines;
 pub use fault::ConstraintFault;
+pub use laws::{meshes_have_an_answer, meshes_have_one_answer};
 pub use refinement::refine_by_steps;
