@@ -7,3 +7,5 @@ pub mod NodeLaws
 pub mod Closing
 pub mod Decided
 pub mod AnswerLaws
+pub mod MemoryLaws
+pub mod DecidingLaws
