@@ -1,0 +1,11 @@
+pub mod StepLaws
+pub mod OuterFaces
+pub mod LeastLaws
+pub mod LineLaws
+pub mod TieLaws
+pub mod NodeLaws
+pub mod Closing
+pub mod Decided
+pub mod AnswerLaws
+pub mod MemoryLaws
+pub mod DecidingLaws

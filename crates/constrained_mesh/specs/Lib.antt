@@ -1,0 +1,9 @@
+pub mod Steps
+pub mod Dirichlet
+pub mod LeastIds
+pub mod MeshLines
+pub mod Faults
+pub mod Nodes
+pub mod Ties
+pub mod Constrained
+pub mod Laws
