@@ -1,0 +1,10 @@
+//! Texts in the Matrix Market exchange format (<https://math.nist.gov/MatrixMarket/formats.html>): matrices, right sides
+//! and patterns are written, and matrices and right sides are read back.
+//!
+//! Values are whole numbers, in units of 2^-32.
+#![tactic(auto)]
+
+mod append;
+mod matrix_text;
+
+pub use matrix_text::append_entry;
