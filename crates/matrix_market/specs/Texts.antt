@@ -24,28 +24,25 @@ size_line size count = line_of (decimal size ∷ decimal size ∷ decimal count 
 abbrev pub entry_line : Triple → List ℕ
 entry_line entry = line_of (decimal (entry.0 + 1) ∷ decimal (entry.1 + 1) ∷ signed_decimal entry.2 ∷ [])
 
-unfoldable pub matrix_banner : List ℕ
-matrix_banner = codes "%%MatrixMarket matrix coordinate integer general"
+-- the first lines of a square matrix: its size and how many entries it has
+unfoldable pub matrix_front : ℕ → ℕ → List (List ℕ)
+matrix_front size count = codes "%%MatrixMarket matrix coordinate integer general" ∷ unit_line ∷ size_line size count ∷ []
 
--- the lines of a square matrix: its size and its entries, by row and then by column
+-- the lines of a square matrix: its entries stand by row and then by column
 abbrev pub matrix_lines : List (List ℕ) → List (List ℤ) → List (List ℕ)
-matrix_lines pattern values =
-    matrix_banner ∷ unit_line ∷ size_line (length pattern) (length (concat pattern)) ∷ map entry_line (entries_of pattern values)
+matrix_lines pattern values = matrix_front (length pattern) (length (concat pattern)) ++ map entry_line (entries_of pattern values)
 
 -- the text of a matrix, by its rows of columns and its rows of values
 unfoldable pub matrix_text : List (List ℕ) → List (List ℤ) → List ℕ
 matrix_text pattern values = text_of (matrix_lines pattern values)
 
-unfoldable pub vector_banner : List ℕ
-vector_banner = codes "%%MatrixMarket matrix array integer general"
-
--- the lines of a right side: how many values it has, in one column, and the values
-abbrev pub vector_lines : List ℤ → List (List ℕ)
-vector_lines values = vector_banner ∷ unit_line ∷ line_of (decimal (length values) ∷ codes "1" ∷ []) ∷ map signed_decimal values
+-- the first lines of a right side: how many values it has, in one column
+unfoldable pub vector_front : ℕ → List (List ℕ)
+vector_front size = codes "%%MatrixMarket matrix array integer general" ∷ unit_line ∷ line_of (decimal size ∷ codes "1" ∷ []) ∷ []
 
 -- the text of a right side
 unfoldable pub vector_text : List ℤ → List ℕ
-vector_text values = text_of (vector_lines values)
+vector_text values = text_of (vector_front (length values) ++ map signed_decimal values)
 
 -- the line of a pair of a pattern: its row and its column, counted from 1
 abbrev pub pair_line : ℕ → ℕ → List ℕ
@@ -56,9 +53,10 @@ abbrev pub pair_lines : ℕ → List (List ℕ) → List (List ℕ)
 pair_lines i [] = []
 pair_lines i (row ∷ rows) = map (pair_line i) row ++ pair_lines (i + 1) rows
 
-unfoldable pub pattern_banner : List ℕ
-pattern_banner = codes "%%MatrixMarket matrix coordinate pattern general"
+-- the first lines of a pattern: its size and how many pairs it has
+unfoldable pub pattern_front : ℕ → ℕ → List (List ℕ)
+pattern_front size count = codes "%%MatrixMarket matrix coordinate pattern general" ∷ size_line size count ∷ []
 
--- the text of a pattern: its size and its pairs, by row and then by column
+-- the text of a pattern: its pairs stand by row and then by column
 unfoldable pub pattern_text : List (List ℕ) → List ℕ
-pattern_text pattern = text_of (pattern_banner ∷ size_line (length pattern) (length (concat pattern)) ∷ pair_lines 0 pattern)
+pattern_text pattern = text_of (pattern_front (length pattern) (length (concat pattern)) ++ pair_lines 0 pattern)

@@ -5,6 +5,11 @@
 #![tactic(auto)]
 
 mod append;
-mod matrix_text;
+mod matrix_writer;
+mod pattern_writer;
+mod sizes;
+mod vector_writer;
 
-pub use matrix_text::append_entry;
+pub use matrix_writer::matrix_text;
+pub use pattern_writer::pattern_text;
+pub use vector_writer::vector_text;
