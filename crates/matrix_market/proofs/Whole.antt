@@ -2,8 +2,10 @@
 use Rattle.std.proofs.Common.{◌≡◌, ◌∙◌, sym, ap, refl, ℕ, ℤ, ◌+◌, ◌-◌, ◌^◌, ◌≤◌, min, List, [], ◌∷◌, ◌++◌, length, map, drop, length-append, arith}
 use Rattle.std.specs.Fmt.{signed_decimal}
 use Rattle.std.specs.List.{concat}
+use Rattle.std.proofs.lemmas.List.{length-map}
 use Rattle.std.proofs.lemmas.Grind.{common_steps}
-use Rattle.matrix_market.specs.Entries.{entries_of}
+use Rattle.sparsity.specs.declared.rows.Row.{Row}
+use Rattle.matrix_market.specs.Entries.{entries_of, right_sides}
 use Rattle.matrix_market.specs.Texts.{text_of, entry_line, matrix_front, matrix_text, vector_front, vector_text, pair_lines, pattern_front, pattern_text}
 use Rattle.matrix_market.specs.Parts.{size_of, rows_text, pairs_text, values_text}
 use Rattle.matrix_market.proofs.Pieces.{text_joins, room_joins}
@@ -61,3 +63,6 @@ pairs_end pattern n h = ap (pairs_text n) (drop_all pattern n h)
 
 pub values_end : (values : List ℤ) (n : ℕ) → length values ≤ n → values_text (drop n values) ≡ []
 values_end values n h = ap values_text (drop_all values n h)
+
+pub vector_length : (rows : List Row) (size : ℕ) → size ≡ length rows → size ≡ length (right_sides rows)
+vector_length rows size h = h ∙ sym (length-map rows (λ (row : Row). row.rhs))

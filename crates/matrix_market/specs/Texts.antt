@@ -36,9 +36,13 @@ matrix_lines pattern values = matrix_front (length pattern) (length (concat patt
 unfoldable pub matrix_text : List (List ℕ) → List (List ℤ) → List ℕ
 matrix_text pattern values = text_of (matrix_lines pattern values)
 
--- the first lines of a right side: how many values it has, in one column
+-- how many values a right side has, in one column
+abbrev pub vector_size_line : ℕ → List ℕ
+vector_size_line size = line_of (decimal size ∷ codes "1" ∷ [])
+
+-- the first lines of a right side
 unfoldable pub vector_front : ℕ → List (List ℕ)
-vector_front size = codes "%%MatrixMarket matrix array integer general" ∷ unit_line ∷ line_of (decimal size ∷ codes "1" ∷ []) ∷ []
+vector_front size = codes "%%MatrixMarket matrix array integer general" ∷ unit_line ∷ vector_size_line size ∷ []
 
 -- the text of a right side
 unfoldable pub vector_text : List ℤ → List ℕ

@@ -1,6 +1,7 @@
-ghost use Rattle.std.specs.Prelude.{◌≡◌, ◌≤◌, ◌++◌, length, vec_capacity, IfOk};
+ghost use Rattle.std.specs.Prelude.{◌≡◌, ◌≤◌, ◌++◌, ◌∷◌, ◌<◌, [], length, pos, slice_index_or, vec_capacity, IfOk};
+ghost use Rattle.std.specs.Fmt.{signed_decimal};
 ghost use Rattle.matrix_market.specs.Entries.{right_sides};
-ghost use Rattle.matrix_market.specs.Texts.{text_of};
+ghost use Rattle.matrix_market.specs.Texts.{text_of, vector_size_line};
 ghost use Rattle.matrix_market.specs.Texts as written;
 ghost use Rattle.matrix_market.specs.Parts.{values_text, size_of};
 
@@ -31,7 +32,7 @@ fn vector_size(rows: &Rows) -> usize
 {
     let mut size = front_size(rows.size());
     for i in 0..rows.size() {
-        size = size.saturating_add(width(rows.get(i).rhs) + 1);
+        size = size.saturating_add(width(right_side(rows, i)) + 1);
     }
     size
 }
@@ -44,6 +45,15 @@ fn append_front(text: &mut Vec<u8>, size: u32)
     ensures room { vec_capacity text.old ≤ vec_capacity text.new }
 {
     append(text, HEAD);
+    append_size(text, size);
+}
+
+// Adds the size line.
+fn append_size(text: &mut Vec<u8>, size: u32)
+    requires { length (text.old.items ++ text_of (vector_size_line size ∷ [])) ≤ vec_capacity text.old }
+    ensures items { text.new.items ≡ text.old.items ++ text_of (vector_size_line size ∷ []) }
+    ensures room { vec_capacity text.old ≤ vec_capacity text.new }
+{
     append_number(text, size, b" 1\n");
 }
 
@@ -63,6 +73,23 @@ fn append_values(text: &mut Vec<u8>, rows: &Rows)
     ensures room { vec_capacity text.old ≤ vec_capacity text.new }
 {
     for i in 0..rows.size() {
-        append_number(text, rows.get(i).rhs, b"\n");
+        append_value(text, right_side(rows, i));
     }
+}
+
+// The right side of a row.
+fn right_side(rows: &Rows, i: u32) -> i128
+    requires { i < length rows.now }
+    ensures { result ≡ slice_index_or (right_sides rows.now) i (pos 0) }
+{
+    rows.get(i).rhs
+}
+
+// Adds a value.
+fn append_value(text: &mut Vec<u8>, value: i128)
+    requires { length (text.old.items ++ text_of (signed_decimal value ∷ [])) ≤ vec_capacity text.old }
+    ensures items { text.new.items ≡ text.old.items ++ text_of (signed_decimal value ∷ []) }
+    ensures room { vec_capacity text.old ≤ vec_capacity text.new }
+{
+    append_number(text, value, b"\n");
 }
