@@ -31,3 +31,7 @@ digit_count n power small least most =
 
 pub zero_digits : (n : ℕ) → n ≡ 0 → 1 ≡ length (decimal n)
 zero_digits n h = ap length (sym (decimal_digit 0 (omega arith))) ∙ ap (λ m. length (decimal m)) (sym h)
+
+-- a number of fewer than 38 digits leaves room for one digit more
+pub room_for_digit : (value digits : ℕ) → value < 10 ^ digits → digits < 38 → value < 10 ^ 37
+room_for_digit value digits h few = let grows = pow-le-pow_right {n = 10} (omega arith) {i = digits} {j = 37} (omega arith) in omega arith

@@ -1,3 +1,6 @@
 pub mod Entries
 pub mod Texts
 pub mod Parts
+pub mod Values
+pub mod Lines
+pub mod Market

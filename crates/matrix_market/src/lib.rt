@@ -5,11 +5,16 @@
 #![tactic(auto)]
 
 mod append;
+mod fault;
 mod matrix_writer;
 mod pattern_writer;
+mod size;
 mod sizes;
+mod values;
 mod vector_writer;
+mod words;
 
+pub use fault::{MarketFault, MarketKind};
 pub use matrix_writer::matrix_text;
 pub use pattern_writer::pattern_text;
 pub use vector_writer::vector_text;
