@@ -5,16 +5,24 @@
 #![tactic(auto)]
 
 mod append;
+mod banner;
 mod fault;
+mod matrix_reader;
 mod matrix_writer;
 mod pattern_writer;
+mod push;
 mod size;
 mod sizes;
+mod triples;
 mod values;
+mod vector_reader;
 mod vector_writer;
 mod words;
 
 pub use fault::{MarketFault, MarketKind};
+pub use matrix_reader::read_matrix;
 pub use matrix_writer::matrix_text;
 pub use pattern_writer::pattern_text;
+pub use triples::{Triples, Values};
+pub use vector_reader::read_vector;
 pub use vector_writer::vector_text;
