@@ -6,4 +6,4 @@ use Rattle.fem_text.specs.Reading.{ReadsAll}
 use Rattle.matrix_market.proofs.matrix_reader.read_entries.Given as goal
 
 abbrev pub invariant-loop : goal.invariant-loop
-invariant-loop l = (ReadsAll TooFew (λ before. matrix_entry l.size) l.fn.lines l.counter l.entries.items) × (l.lines ≡ behind l.counter l.fn.lines)
+invariant-loop l = (ReadsAll TooFew (λ before. matrix_entry l.fn.size) l.fn.lines l.counter l.entries.items) × (l.lines ≡ behind l.counter l.fn.lines)
