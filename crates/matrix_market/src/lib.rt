@@ -7,6 +7,7 @@
 mod append;
 mod banner;
 mod fault;
+mod laws;
 mod matrix_reader;
 mod matrix_writer;
 mod pattern_writer;
@@ -20,6 +21,7 @@ mod vector_writer;
 mod words;
 
 pub use fault::{MarketFault, MarketKind};
+pub use laws::{one_matrix_reading, one_vector_reading};
 pub use matrix_reader::read_matrix;
 pub use matrix_writer::matrix_text;
 pub use pattern_writer::pattern_text;
