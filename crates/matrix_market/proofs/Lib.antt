@@ -4,3 +4,9 @@ pub mod Whole
 pub mod Steps
 pub mod OneReading
 pub mod NoMemory
+pub mod Plain
+pub mod TextLines
+pub mod Decimals
+pub mod ReadBack
+pub mod Matrices
+pub mod RightSides

@@ -4,3 +4,4 @@ pub mod Parts
 pub mod Values
 pub mod Lines
 pub mod Market
+pub mod ReadBack

@@ -23,7 +23,10 @@ mod vector_writer;
 mod words;
 
 pub use fault::{MarketFault, MarketKind};
-pub use laws::{one_matrix_reading, one_vector_reading};
+pub use laws::{
+    one_matrix_reading, one_vector_reading, written_matrices_are_read_back,
+    written_right_sides_are_read_back,
+};
 pub use matrix_reader::read_matrix;
 pub use matrix_writer::matrix_text;
 pub use pattern_writer::pattern_text;

@@ -129,9 +129,18 @@ fn faults_of_matrices(rt: HostRuntime) -> Result<(), Fail> {
         assert_eq!(rt; fault.kind, kind);
         assert_eq!(rt; fault.line, line);
     }
-    let blank = read_matrix(rt.alloc(), b"\n%%MatrixMarket matrix coordinate integer general\n");
+    let blank = read_matrix(
+        rt.alloc(),
+        b"\n%%MatrixMarket matrix coordinate integer general\n",
+    );
     assert_eq!(rt; blank.err().map(|fault| fault.line), Some(1));
-    let vector = read_vector(rt.alloc(), b"%%MatrixMarket matrix array integer general\n1 01\n5\n");
-    assert_eq!(rt; vector.err().map(|fault| fault.kind), Some(MarketKind::Size));
+    let vector = read_vector(
+        rt.alloc(),
+        b"%%MatrixMarket matrix array integer general\n1 01\n5\n",
+    );
+    assert_eq!(rt;
+        vector.err().map(|fault| fault.kind),
+        Some(MarketKind::Size)
+    );
     Ok(())
 }

@@ -34,11 +34,7 @@ pub fn read_vector(alloc: Global, text: &[u8]) -> Result<Values, MarketFault>
 }
 
 // Reads the lines of the values.
-fn read_values(
-    alloc: Global,
-    lines: &mut WordLines,
-    count: u32,
-) -> Result<Vec<i128>, MarketFault>
+fn read_values(alloc: Global, lines: &mut WordLines, count: u32) -> Result<Vec<i128>, MarketFault>
     ensures ok { IfOk result (λ values. ReadsAll MarketKind.TooFew (λ before. expected.vector_entry) lines.old count values.items) }
     ensures lines { OnOk result (lines.new ≡ behind count lines.old) }
     ensures err { IfErr result (λ fault. NoMemoryOr fault (FailsFirst MarketKind.TooFew (λ before. expected.vector_entry) lines.old count fault.kind fault.line)) }
