@@ -1,6 +1,6 @@
 -- Written numbers, and what is read of them.
-use Rattle.std.proofs.Common.{◌≡◌, ◌∙◌, sym, ap, refl, ℕ, suc, ◌+◌, ◌-◌, ◌*◌, ◌/◌, ◌%◌, ◌^◌, ◌<◌, ◌≤◌, List, [], ◌∷◌, ◌++◌, length, drop, Bool, true, false, nat_lt, ◌&&◌, arith, length-append, decimal}
-use Rattle.std.specs.Prelude.{Some, None, ◌==◌, ℤ, pos, negsuc, nat_le, if◌then◌else◌}
+use Rattle.std.proofs.Common.{◌≡◌, ◌∙◌, refl, ℕ, suc, ◌+◌, ◌-◌, ◌*◌, ◌/◌, ◌%◌, ◌^◌, ◌<◌, ◌≤◌, List, [], ◌∷◌, ◌++◌, length, true, false, nat_lt, arith, length-append, decimal}
+use Rattle.std.specs.Prelude.{Some, ◌==◌, ℤ, pos, negsuc, nat_le}
 use Rattle.std.specs.Char.{is_ascii_digit}
 use Rattle.std.specs.Fmt.{signed_decimal}
 use Rattle.std.specs.Int.{w128}
@@ -8,13 +8,12 @@ use Rattle.std.specs.Int.RustNames.{FitsSigned}
 use Rattle.std.specs.List.{list_all}
 use Rattle.std.proofs.lemmas.Bool.Decides.{nat_tests}
 use Rattle.std.proofs.lemmas.Fmt.{decimal_by_steps_wide, length-decimal-le_wide}
-use Rattle.std.proofs.lemmas.Grind.{common_steps}
 use Rattle.std.proofs.lemmas.List.Folds.{list_all-append}
 use Rattle.std.proofs.lemmas.List.Sums.{fold-append}
 use Rattle.fem_fixed.specs.Numbers.{digits_value, id_of}
-use Rattle.fem_fixed.specs.Ticks.{has_minus, with_sign}
+use Rattle.fem_fixed.specs.Ticks.{has_minus}
 use Rattle.fem_text.specs.WordLines.{starts_with}
-use Rattle.matrix_market.specs.Values.{is_whole, whole_of, count_of, greatest, without_minus, value_of}
+use Rattle.matrix_market.specs.Values.{whole_of, count_of, value_of}
 use Rattle.matrix_market.proofs.Plain.{is_plain, IsWord, and_left, and_right}
 
 -- digits of this value

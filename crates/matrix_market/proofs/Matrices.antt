@@ -1,10 +1,10 @@
 -- Written matrices are read back.
-use Rattle.std.proofs.Common.{◌≡◌, ◌∙◌, sym, ap, refl, ℕ, zero, suc, ◌+◌, ◌-◌, ◌<◌, ◌≤◌, ◌^◌, List, [], ◌∷◌, ◌++◌, length, map, true, false, nat_lt, arith, length-append, decimal}
-use Rattle.std.specs.Prelude.{Ok, ℤ, nat_le, All, slice_index_or, codes}
+use Rattle.std.proofs.Common.{◌≡◌, sym, ap, refl, ℕ, suc, ◌+◌, ◌-◌, ◌<◌, ◌≤◌, ◌^◌, List, [], ◌∷◌, ◌++◌, length, map, true, false, nat_lt, arith, length-append, decimal}
+use Rattle.std.specs.Prelude.{Ok, ℤ, nat_le, All, codes}
 use Rattle.std.specs.Fmt.{signed_decimal}
 use Rattle.std.specs.Int.{w128}
 use Rattle.std.specs.Int.RustNames.{FitsSigned}
-use Rattle.std.specs.List.{concat, list_all}
+use Rattle.std.specs.List.{concat}
 use Rattle.std.proofs.lemmas.Bool.Decides.{nat_tests}
 use Rattle.std.proofs.lemmas.List.Elements.{All-head, All-tail}
 use Rattle.fem_text.specs.Lines.{words_of}
@@ -12,11 +12,11 @@ use Rattle.fem_text.specs.WordLines.{starts_with}
 use Rattle.fem_text.specs.Words.{id_at}
 use Rattle.matrix_market.specs.declared.size.MatrixSize.{MatrixSize}
 use Rattle.matrix_market.specs.Entries.{Triple, Fills, row_entries, entries_from, entries_of}
-use Rattle.matrix_market.specs.Texts.{text_of, line_of, size_line, entry_line, unit_line, matrix_front, matrix_text}
+use Rattle.matrix_market.specs.Texts.{line_of, size_line, entry_line, unit_line, matrix_front, matrix_text}
 use Rattle.matrix_market.specs.Lines.{this_word, banner_line, matrix_size, from_zero, index_at, value_at, matrix_entry}
 use Rattle.matrix_market.specs.Market.{MatrixText, matrix_form}
 use Rattle.matrix_market.specs.ReadBack.{IsReadable}
-use Rattle.matrix_market.proofs.Plain.{IsWord, AreWords, words_of_line, line_has_words, line_is_shown}
+use Rattle.matrix_market.proofs.Plain.{AreWords, words_of_line, line_has_words, line_is_shown}
 use Rattle.matrix_market.proofs.TextLines.{IsLine, AreLines}
 use Rattle.matrix_market.proofs.Decimals.{decimal_digits, decimal_word, signed_word, no_first_mark, id_of_decimal, count_of_decimal, value_of_signed}
 use Rattle.matrix_market.proofs.ReadBack.{GiveBack, IsText, says_back}

@@ -1,16 +1,15 @@
 -- No line has the kind of fault that says that memory ran out.
-use Rattle.std.proofs.Common.{ℕ, ◌-◌, List, [], ◌∷◌, length, ◌&&◌, nat_lt, Bool, true, false}
+use Rattle.std.proofs.Common.{ℕ, ◌-◌, List, length, ◌&&◌, nat_lt, Bool, true, false}
 use Rattle.std.specs.Prelude.{Ok, Err, codes, nat_le, if◌then◌else◌}
 use Rattle.std.specs.declared.result.Result.{Result}
 use Rattle.std.specs.Str.{bytes_eq}
-use Rattle.fem_text.specs.WordLines.{Lines, behind}
-use Rattle.fem_text.specs.Words.{unless}
+use Rattle.fem_text.specs.WordLines.{Lines}
 use Rattle.fem_text.proofs.NeverKind.{Never, good, bad, bind, of_option, of_test, of_exact, of_word, of_id, no_fault}
 use Rattle.matrix_market.specs.declared.fault.MarketKind.{MarketKind}
 use Rattle.matrix_market.specs.declared.fault.MarketKind.TheVariants as kinds
 use Rattle.matrix_market.specs.declared.size.MatrixSize.{MatrixSize}
 use Rattle.matrix_market.specs.Values.{count_of, value_of}
-use Rattle.matrix_market.specs.Lines.{this_word, matrix_size, vector_size, from_zero, index_at, value_at, matrix_entry, vector_entry}
+use Rattle.matrix_market.specs.Lines.{this_word, matrix_size, vector_size, index_at, value_at, matrix_entry, vector_entry}
 use Rattle.matrix_market.specs.Market.{Form, FaultIn, in_banner, in_size, in_entries, in_rest, from_size, from_entries, matrix_form, vector_form}
 
 -- it isn't that memory ran out

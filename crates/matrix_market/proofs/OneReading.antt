@@ -1,7 +1,6 @@
 -- A text has one reading, in each of the forms.
 use Rattle.std.proofs.Common.{◌≡◌, ◌∙◌, sym, ap, refl, subst, ℕ, List, [], ◌∷◌, ◌⊎◌, inl, inr}
-use Rattle.std.specs.Prelude.{Some, None, Ok, Err}
-use Rattle.std.specs.declared.option.Option.{Option}
+use Rattle.std.specs.Prelude.{Some, None}
 use Rattle.std.specs.List.{slice_get}
 use Rattle.fem_text.specs.WordLines.{Line, Lines, behind, number_at}
 use Rattle.fem_text.specs.Reading.{outcome, IsFault, ReadsAll, FailsFirst}

@@ -1,14 +1,14 @@
 -- The lines of a text that was made of lines.
-use Rattle.std.proofs.Common.{◌≡◌, ◌∙◌, sym, ap, refl, ℕ, suc, ◌+◌, ◌-◌, ◌<◌, List, [], ◌∷◌, ◌++◌, length, map, take, Bool, true, false, nat_lt, ◌&&◌, not, append_assoc, arith}
-use Rattle.std.specs.Prelude.{filter, ◌==◌, None, if◌then◌else◌}
-use Rattle.std.specs.List.{list_all, slice_split, slice_index, All, count_by}
+use Rattle.std.proofs.Common.{◌≡◌, ◌∙◌, ap, refl, ℕ, ◌+◌, ◌-◌, ◌<◌, List, [], ◌∷◌, ◌++◌, length, map, Bool, true, false, append_assoc, arith}
+use Rattle.std.specs.Prelude.{filter, ◌==◌, None}
+use Rattle.std.specs.List.{list_all, slice_split, slice_index}
 use Rattle.std.specs.Str.Lines.{strip_carriage_return}
 use Rattle.std.proofs.lemmas.Bool.Decides.{nat_tests}
 use Rattle.std.proofs.lemmas.List.Elements.{All-weaker}
 use Rattle.std.proofs.lemmas.List.Splits.{slice_split_at, length-slice_split}
 use Rattle.std.proofs.lemmas.List.Sums.{AllPass-from_list_all}
 use Rattle.fem_text.specs.Lines.{without_empty_end, lines_of}
-use Rattle.fem_text.specs.WordLines.{Line, Lines, numbered, has_words, counts, lines_from, text_lines}
+use Rattle.fem_text.specs.WordLines.{Line, numbered, has_words, counts, lines_from, text_lines}
 use Rattle.matrix_market.specs.Texts.{text_of}
 use Rattle.matrix_market.proofs.Plain.{is_shown}
 

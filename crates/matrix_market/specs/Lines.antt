@@ -1,5 +1,5 @@
 -- The lines of a text that is read, by their words.
-use Rattle.std.specs.Prelude.{ℕ, ◌-◌, List, [], ◌∷◌, codes, ℤ, ◌&&◌, nat_lt, nat_le, if◌then◌else◌, Ok, Err}
+use Rattle.std.specs.Prelude.{ℕ, ◌-◌, List, codes, ℤ, ◌&&◌, nat_lt, nat_le, if◌then◌else◌, Ok, Err}
 use Rattle.std.specs.declared.result.Result.{Result}
 use Rattle.std.specs.Str.{bytes_eq}
 use Rattle.fem_text.specs.Words.{◌>>=◌, or_fault, unless, exactly, word_at, id_at}

@@ -1,5 +1,5 @@
 -- The texts in parts, as they are written one behind the other.
-use Rattle.std.specs.Prelude.{ℕ, ◌+◌, ◌^◌, ◌-◌, ℤ, List, length, map, min}
+use Rattle.std.specs.Prelude.{ℕ, ◌^◌, ◌-◌, ℤ, List, length, map, min}
 use Rattle.std.specs.Fmt.{signed_decimal}
 use Rattle.matrix_market.specs.Entries.{row_entries, entries_from}
 use Rattle.matrix_market.specs.Texts.{text_of, entry_line, pair_line, pair_lines}

@@ -1,9 +1,7 @@
-use Rattle.std.proofs.Common.{◌≡◌, ◌∙◌, sym, ap, refl, ℕ, List, ◌⊎◌, inl, inr}
+use Rattle.std.proofs.Common.{◌∙◌, sym, refl, ℕ, List, ◌⊎◌, inl, inr}
 use Rattle.std.specs.Prelude.{None}
 use Rattle.fem_text.specs.WordLines.{text_lines}
 use Rattle.matrix_market.specs.declared.fault.MarketKind.{MarketKind}
-use Rattle.matrix_market.specs.declared.size.MatrixSize.{MatrixSize}
-use Rattle.matrix_market.specs.Entries.{Triple}
 use Rattle.matrix_market.specs.Market.{Matrix, MatrixText, MatrixFaultAt, matrix_form}
 use Rattle.matrix_market.proofs.OneReading.{one_says, one_fault, says_no_fault, some_reading}
 use Rattle.matrix_market.proofs.NoMemory.{never_memory_matrix}

@@ -1,4 +1,4 @@
-use Rattle.std.proofs.Common.{length, drop, map, arith, ap}
+use Rattle.std.proofs.Common.{drop, map, arith}
 use Rattle.matrix_market.specs.Entries.{values_of, entries_of}
 use Rattle.matrix_market.specs.Texts.{entry_line, matrix_front, matrix_text}
 use Rattle.matrix_market.specs.Parts.{rows_text, size_of}

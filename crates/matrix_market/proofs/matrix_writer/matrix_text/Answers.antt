@@ -1,4 +1,4 @@
-use Rattle.std.proofs.Common.{map, ◌∙◌, sym}
+use Rattle.std.proofs.Common.{map, ◌∙◌}
 use Rattle.matrix_market.specs.Entries.{values_of, entries_of}
 use Rattle.matrix_market.specs.Texts.{entry_line, matrix_front, matrix_text}
 use Rattle.matrix_market.proofs.Whole.{matrix_whole, room_for_front, room_for_rest, whole_text}
