@@ -1,3 +1,4 @@
+pub mod Begun
 pub mod Cuts
 pub mod Places
 pub mod Taking

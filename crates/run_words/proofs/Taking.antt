@@ -1,5 +1,5 @@
 -- What taking a setting does.
-use Rattle.std.proofs.Common.{◌≡◌, ◌≢◌, ◌<◌, ◌∙◌, ◌++◌, ◌+◌, ap, sym, subst, ℕ, List, [], ◌∷◌, length, Bool, true, false, cond, refl, arith, nat_eq, append-nil, get_or, take, drop, map, ◌≤◌, ◌-◌, sub-one}
+use Rattle.std.proofs.Common.{◌≡◌, ◌≢◌, ◌<◌, ◌∙◌, ◌++◌, ◌+◌, ap, sym, subst, ℕ, List, [], ◌∷◌, length, Bool, true, false, cond, refl, arith, nat_eq, append-nil, get_or, take, drop, map, ◌≤◌, ◌-◌, suc}
 use Rattle.std.proofs.Math.Seq.{take-length}
 use Rattle.std.specs.Prelude.{Some, None, is_some, IsSome, count_by}
 use Rattle.std.specs.declared.option.Option.{Option}
@@ -68,7 +68,9 @@ cannot_take_summary held word behind begun stood =
 -- a list that isn't empty, by its first element
 pub map-front : {A B : Type 0} (f : A → B) (list : List A) (x : A) → 1 ≤ length list → x ≡ get_or list 0 x → map f list ≡ f x ∷ map f (take (length list - 1) (drop 1 list))
 map-front f [] x long is = absurd (omega (arith, long))
-map-front f (y ∷ ys) x long is = rw (is, sub-one (length ys), take-length ys) refl
+map-front f (y ∷ ys) x long is =
+    let e : suc (length ys) - 1 ≡ length ys = omega arith in
+    ap (λ z. f z ∷ map f ys) (sym is) ∙ ap (λ list. f x ∷ map f list) (sym (ap (λ n. take n ys) e ∙ take-length ys))
 
 pub opened : (found : Option rust.Opening) (x : rust.Opening) (word : List ℕ) → option_map seen_opening found ≡ begins word → found ≡ Some x → begins word ≡ Some (seen_opening x)
 opened found x word seen is = sym seen ∙ ap (option_map seen_opening) is
