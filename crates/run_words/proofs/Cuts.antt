@@ -11,9 +11,9 @@ use Rattle.std.proofs.lemmas.List.Sums.{sum_by-append, sum_by-cons}
 use Rattle.std.proofs.Common.{zero}
 use Rattle.run_words.specs.declared.name.Name.{Name}
 use Rattle.run_words.specs.Names.{place_of, spelled}
-use Rattle.run_words.specs.Settings.{Setting, apart, joined, summary, words_of, gives_to, is_summary, values_of, StandsOnce}
+use Rattle.run_words.specs.Settings.{Setting, Given, apart, joined, summary, words_of, gives_to, is_summary, values_of, StandsOnce}
 use Rattle.run_words.specs.Openings.{Begins, whole, named, begins}
-use Rattle.run_words.specs.Held.{Held, Adds, Takes, CannotTake, no_setting, stands, valued, alone, Repeats, HoldsValues, Holds, HoldsSoFar, CannotHold, first_with, first_setting}
+use Rattle.run_words.specs.Held.{Adds, Takes, CannotTake, no_setting, stands, valued, alone, Repeats, HoldsValues, Holds, HoldsSoFar, CannotHold, first_with, first_setting}
 use Rattle.run_words.proofs.Begun.{begins_name, begins_joined, begins_summary, begins_tells, IsBegun}
 use Rattle.run_words.proofs.Places.{held_in}
 
@@ -100,7 +100,7 @@ single_value : (o : Option (List ℕ)) → option_to_list o ≡ cons_option o []
 single_value None = refl
 single_value (Some value) = refl
 
-pub holds_more : (words : List (List ℕ)) (held new : Held) (left rest : List (List ℕ)) → HoldsSoFar words held left → Takes held left new rest → HoldsSoFar words new rest
+pub holds_more : (words : List (List ℕ)) (held new : Given) (left rest : List (List ℕ)) → HoldsSoFar words held left → Takes held left new rest → HoldsSoFar words new rest
 holds_more words held new left rest so_far takes = record {
   settings = so_far.settings ++ takes.setting ∷ [];
   words_are = so_far.words_are ∙ ap (λ list. flat_map words_of so_far.settings ++ list) (words_of_first left takes.setting rest takes.first_is)
@@ -118,7 +118,7 @@ holds_more words held new left rest so_far takes = record {
   };
 }
 
-pub holds_all : (words : List (List ℕ)) (held : Held) → HoldsSoFar words held [] → Holds words held
+pub holds_all : (words : List (List ℕ)) (held : Given) → HoldsSoFar words held [] → Holds words held
 holds_all words held so_far = record {
   settings = so_far.settings;
   words_are = so_far.words_are ∙ append-nil (flat_map words_of so_far.settings);
@@ -133,7 +133,7 @@ giving : (o : Option (List ℕ)) (values : List (List ℕ)) → IsSome o → len
 giving None values given = cc
 giving (Some value) values given = omega arith
 
-repeats_twice : (settings more : List Setting) (setting : Setting) (held : Held) → HoldsValues settings held → StandsOnce (settings ++ setting ∷ more) → Repeats held setting → ⊥
+repeats_twice : (settings more : List Setting) (setting : Setting) (held : Given) → HoldsValues settings held → StandsOnce (settings ++ setting ∷ more) → Repeats held setting → ⊥
 repeats_twice settings more setting held holds once (valued name stood given) =
     let all = ap length (filter_map-append (gives_to name) settings (setting ∷ more)) in
     let sizes = length-append (values_of settings name) (values_of (setting ∷ more) name) in
@@ -152,7 +152,7 @@ repeats_twice settings more setting held holds once (alone stood is) =
     let few = once.summary_once in
     omega arith
 
-fails_at : (settings more : List Setting) (held : Held) (word : List ℕ) (behind : List (List ℕ)) → HoldsValues settings held → word ∷ behind ≡ flat_map words_of more →
+fails_at : (settings more : List Setting) (held : Given) (word : List ℕ) (behind : List (List ℕ)) → HoldsValues settings held → word ∷ behind ≡ flat_map words_of more →
     StandsOnce (settings ++ more) → CannotTake held (word ∷ behind) → ⊥
 fails_at settings [] held word behind holds is once cannot = cc
 fails_at settings (setting ∷ more) held word behind holds is once (no_setting none) =
@@ -161,7 +161,7 @@ fails_at settings (setting ∷ more) held word behind holds is once (stands othe
     let pair = same_pair other setting left (flat_map words_of more) (sym first ∙ ap first_setting is ∙ first_setting-words_of setting (flat_map words_of more)) in
     repeats_twice settings more setting held holds once (subst (Repeats held) pair.0 repeats)
 
-pub holds_fails : (words : List (List ℕ)) (held : Held) (word : List ℕ) (behind : List (List ℕ)) → HoldsSoFar words held (word ∷ behind) → CannotTake held (word ∷ behind) → CannotHold words
+pub holds_fails : (words : List (List ℕ)) (held : Given) (word : List ℕ) (behind : List (List ℕ)) → HoldsSoFar words held (word ∷ behind) → CannotTake held (word ∷ behind) → CannotHold words
 holds_fails words held word behind so_far cannot all is once =
     let further = cut_further so_far.settings all (word ∷ behind) (sym so_far.words_are ∙ is) in
     fails_at so_far.settings further.0 held word behind so_far.values_are further.2 (subst StandsOnce further.1 once) cannot

@@ -11,7 +11,8 @@ use Rattle.std.specs.Option.{option_copied}
 use Rattle.run_words.specs.declared.name.Name.{Name}
 use Rattle.run_words.specs.declared.name.Name.TheVariants as names
 use Rattle.run_words.specs.Names.{place_of, same_name}
-use Rattle.run_words.specs.Held.{Held, Sets, seen_settings}
+use Rattle.run_words.specs.Settings.{Given}
+use Rattle.run_words.specs.Held.{Sets, seen_settings}
 
 pub get_or-set_by_test : {A : Type 0} (xs : List A) (i j : ℕ) (y d : A) → i < length xs → get_or (set xs i y) j d ≡ cond (nat_eq j i) y (get_or xs j d)
 get_or-set_by_test {A = A} xs i j y d within = grind (arith, nat_tests, common_steps, get_or-set_other {A = A})
@@ -65,7 +66,7 @@ pub same_name-refl : (name : Name) → same_name name name ≡ true
 same_name-refl name = eq-eqb (place_of name) (place_of name) refl
 
 -- what is held by a list of values
-abbrev pub held_in : List (Option (Bor (List ℕ))) → Bool → Held
+abbrev pub held_in : List (Option (Bor (List ℕ))) → Bool → Given
 held_in values stands = record {
   value = λ name. option_copied (get_or values (place_of name) None);
   summary = stands;

@@ -6,44 +6,44 @@ use Rattle.std.specs.declared.option.Option.{Option}
 use Rattle.std.specs.Option.{option_to_list, option_and_then, option_map}
 use Rattle.run_words.specs.declared.name.Name.{Name}
 use Rattle.run_words.specs.Names.{place_of, same_name}
-use Rattle.run_words.specs.Settings.{Setting, apart, joined, summary, gives_to, is_summary}
+use Rattle.run_words.specs.Settings.{Setting, Given, apart, joined, summary, gives_to, is_summary}
 use Rattle.run_words.specs.Openings.{Begins, whole, named, begins, seen_opening}
 use Rattle.run_words.specs.declared.opening.Opening as rust
-use Rattle.run_words.specs.Held.{Held, Sets, Adds, Takes, CannotTake, no_setting, stands, valued, alone, Repeats, first_with, first_setting}
+use Rattle.run_words.specs.Held.{Sets, Adds, Takes, CannotTake, no_setting, stands, valued, alone, Repeats, first_with, first_setting}
 use Rattle.run_words.proofs.Places.{names_are_one, same_name-refl}
 
 -- the value of an option, with what a setting of another or the same one gives
-pub value_added : (old new : Held) (name other : Name) (value : List ℕ) → Sets old name value new → (same : Bool) → same_name other name ≡ same →
+pub value_added : (old new : Given) (name other : Name) (value : List ℕ) → Sets old name value new → (same : Bool) → same_name other name ≡ same →
     option_to_list (cond same (Some value) (old.value other)) ≡ option_to_list (old.value other) ++ option_to_list (cond same (Some value) None)
 value_added old new name other value sets true is = rw (ap old.value (names_are_one other name is) ∙ sets.free) refl
 value_added old new name other value sets false is = sym (append-nil (option_to_list (old.value other)))
 
-pub adds_joined : (old new : Held) (name : Name) (value : List ℕ) → Sets old name value new → Adds old (joined name value) new
+pub adds_joined : (old new : Given) (name : Name) (value : List ℕ) → Sets old name value new → Adds old (joined name value) new
 adds_joined old new name value sets = record {
   values_are = λ other. ap option_to_list (sets.values_are other) ∙ value_added old new name other value sets (same_name other name) refl;
   summary_is = rw sets.summary_stays (omega arith);
 }
 
-pub adds_apart : (old new : Held) (name : Name) (value : List ℕ) → Sets old name value new → Adds old (apart name value) new
+pub adds_apart : (old new : Given) (name : Name) (value : List ℕ) → Sets old name value new → Adds old (apart name value) new
 adds_apart old new name value sets = record {
   values_are = λ other. ap option_to_list (sets.values_are other) ∙ value_added old new name other value sets (same_name other name) refl;
   summary_is = rw sets.summary_stays (omega arith);
 }
 
-pub adds_summary : (old new : Held) → old.summary ≡ false → new ≡ record old { summary = true } → Adds old summary new
+pub adds_summary : (old new : Given) → old.summary ≡ false → new ≡ record old { summary = true } → Adds old summary new
 adds_summary old new free is = record {
   values_are = λ other. rw is (sym (append-nil (option_to_list (old.value other))));
   summary_is = rw (is, free) refl;
 }
 
-pub takes_whole : (old new : Held) (word : List ℕ) (behind : List (List ℕ)) (setting : Setting) → begins word ≡ Some (whole setting) → Adds old setting new → Takes old (word ∷ behind) new behind
+pub takes_whole : (old new : Given) (word : List ℕ) (behind : List (List ℕ)) (setting : Setting) → begins word ≡ Some (whole setting) → Adds old setting new → Takes old (word ∷ behind) new behind
 takes_whole old new word behind setting begun adds = record {
   setting = setting;
   first_is = ap (option_and_then (λ b. first_with b behind)) begun;
   adds = adds;
 }
 
-pub takes_apart : (old new : Held) (word value : List ℕ) (behind : List (List ℕ)) (name : Name) → begins word ≡ Some (named name) → Sets old name value new → Takes old (word ∷ value ∷ behind) new behind
+pub takes_apart : (old new : Given) (word value : List ℕ) (behind : List (List ℕ)) (name : Name) → begins word ≡ Some (named name) → Sets old name value new → Takes old (word ∷ value ∷ behind) new behind
 takes_apart old new word value behind name begun sets = record {
   setting = apart name value;
   first_is = ap (option_and_then (λ b. first_with b (value ∷ behind))) begun;
@@ -53,15 +53,15 @@ takes_apart old new word value behind name begun sets = record {
 pub gives_itself : (same : Bool) (value : List ℕ) → same ≡ true → IsSome (cond same (Some value) None)
 gives_itself same value is = rw is refl
 
-pub cannot_take_joined : (held : Held) (word value : List ℕ) (behind : List (List ℕ)) (name : Name) → begins word ≡ Some (whole (joined name value)) → IsSome (held.value name) → CannotTake held (word ∷ behind)
+pub cannot_take_joined : (held : Given) (word value : List ℕ) (behind : List (List ℕ)) (name : Name) → begins word ≡ Some (whole (joined name value)) → IsSome (held.value name) → CannotTake held (word ∷ behind)
 cannot_take_joined held word value behind name begun stood =
     stands (joined name value) behind (ap (option_and_then (λ b. first_with b behind)) begun) (valued name stood (gives_itself (same_name name name) value (same_name-refl name)))
 
-pub cannot_take_apart : (held : Held) (word value : List ℕ) (behind : List (List ℕ)) (name : Name) → begins word ≡ Some (named name) → IsSome (held.value name) → CannotTake held (word ∷ value ∷ behind)
+pub cannot_take_apart : (held : Given) (word value : List ℕ) (behind : List (List ℕ)) (name : Name) → begins word ≡ Some (named name) → IsSome (held.value name) → CannotTake held (word ∷ value ∷ behind)
 cannot_take_apart held word value behind name begun stood =
     stands (apart name value) behind (ap (option_and_then (λ b. first_with b (value ∷ behind))) begun) (valued name stood (gives_itself (same_name name name) value (same_name-refl name)))
 
-pub cannot_take_summary : (held : Held) (word : List ℕ) (behind : List (List ℕ)) → begins word ≡ Some (whole summary) → held.summary ≡ true → CannotTake held (word ∷ behind)
+pub cannot_take_summary : (held : Given) (word : List ℕ) (behind : List (List ℕ)) → begins word ≡ Some (whole summary) → held.summary ≡ true → CannotTake held (word ∷ behind)
 cannot_take_summary held word behind begun stood =
     stands summary behind (ap (option_and_then (λ b. first_with b behind)) begun) (alone stood refl)
 

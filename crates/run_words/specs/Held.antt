@@ -6,22 +6,17 @@ use Rattle.std.specs.Option.{option_copied, option_to_list, option_and_then}
 use Rattle.run_words.specs.declared.name.Name.{Name}
 use Rattle.run_words.specs.Names.{place_of, same_name}
 use Rattle.run_words.specs.declared.settings.Settings as rust
-use Rattle.run_words.specs.Settings.{Setting, apart, joined, summary, words_of, gives_to, is_summary, values_of, StandsOnce}
+use Rattle.run_words.specs.Settings.{Setting, Given, apart, joined, summary, words_of, gives_to, is_summary, values_of, StandsOnce}
 use Rattle.run_words.specs.Openings.{Begins, whole, named, begins}
 
--- the values of the options that stand, and whether `--summary` stands
-pub record Held : Type 0 where
-  pub value : Name → Option (List ℕ)
-  pub summary : Bool
-
-abbrev pub seen_settings : rust.Settings → Held
+abbrev pub seen_settings : rust.Settings → Given
 seen_settings settings = record {
   value = λ name. option_copied (slice_index_or settings.values (place_of name) None);
   summary = settings.summary;
 }
 
 -- an option that didn't stand gets a value
-pub record Sets (old : Held) (name : Name) (value : List ℕ) (new : Held) : Type 0 where
+pub record Sets (old : Given) (name : Name) (value : List ℕ) (new : Given) : Type 0 where
   pub free : old.value name ≡ None
   pub values_are : (other : Name) → new.value other ≡ (if same_name other name then Some value else old.value other)
   pub summary_stays : new.summary ≡ old.summary
@@ -37,39 +32,39 @@ first_setting [] = None
 first_setting (word ∷ behind) = option_and_then (λ begun. first_with begun behind) (begins word)
 
 -- a setting is added
-pub record Adds (old : Held) (setting : Setting) (new : Held) : Type 0 where
+pub record Adds (old : Given) (setting : Setting) (new : Given) : Type 0 where
   pub values_are : (name : Name) → option_to_list (new.value name) ≡ option_to_list (old.value name) ++ option_to_list (gives_to name setting)
   pub summary_is : (if new.summary then 1 else 0) ≡ count_by is_summary (setting ∷ []) + (if old.summary then 1 else 0)
 
 -- the first setting of the words is taken
-pub record Takes (old : Held) (words : List (List ℕ)) (new : Held) (left : List (List ℕ)) : Type 0 where
+pub record Takes (old : Given) (words : List (List ℕ)) (new : Given) (left : List (List ℕ)) : Type 0 where
   pub setting : Setting
   pub first_is : first_setting words ≡ Some (setting, left)
   pub adds : Adds old setting new
 
 -- the option of a setting stands already
-pub data Repeats (held : Held) (setting : Setting) : Type 0 where
+pub data Repeats (held : Given) (setting : Setting) : Type 0 where
   valued : (name : Name) → IsSome (held.value name) → IsSome (gives_to name setting) → Repeats held setting
   alone : held.summary ≡ true → is_summary setting ≡ true → Repeats held setting
 
 -- the words have no first setting, or its option stands already
-pub data CannotTake (held : Held) (words : List (List ℕ)) : Type 0 where
+pub data CannotTake (held : Given) (words : List (List ℕ)) : Type 0 where
   no_setting : first_setting words ≡ None → CannotTake held words
   stands : (setting : Setting) (left : List (List ℕ)) → first_setting words ≡ Some (setting, left) → Repeats held setting → CannotTake held words
 
 -- these are the values of the settings
-pub record HoldsValues (settings : List Setting) (held : Held) : Type 0 where
+pub record HoldsValues (settings : List Setting) (held : Given) : Type 0 where
   pub values_are : (name : Name) → option_to_list (held.value name) ≡ values_of settings name
   pub summary_is : (if held.summary then 1 else 0) ≡ count_by is_summary settings
 
 -- the words are settings, and these are their values
-pub record Holds (words : List (List ℕ)) (held : Held) : Type 0 where
+pub record Holds (words : List (List ℕ)) (held : Given) : Type 0 where
   pub settings : List Setting
   pub words_are : words ≡ flat_map words_of settings
   pub values_are : HoldsValues settings held
 
 -- the same of the words in front of those that are left
-pub record HoldsSoFar (words : List (List ℕ)) (held : Held) (left : List (List ℕ)) : Type 0 where
+pub record HoldsSoFar (words : List (List ℕ)) (held : Given) (left : List (List ℕ)) : Type 0 where
   pub settings : List Setting
   pub words_are : words ≡ flat_map words_of settings ++ left
   pub values_are : HoldsValues settings held

@@ -43,10 +43,14 @@ abbrev pub first_of : List (List ℕ) → Option (List ℕ)
 first_of [] = None
 first_of (value ∷ values) = Some value
 
--- the value of an option, where it stands
-abbrev pub given : List Setting → Name → Option (List ℕ)
-given settings name = first_of (values_of settings name)
+-- the value of each option that stands, and whether `--summary` stands
+pub record Given : Type 0 where
+  pub value : Name → Option (List ℕ)
+  pub summary : Bool
 
--- `--summary` stands
-abbrev pub wants_summary : List Setting → Bool
-wants_summary settings = nat_lt 0 (count_by is_summary settings)
+-- what settings give
+abbrev pub given_by : List Setting → Given
+given_by settings = record {
+  value = λ name. first_of (values_of settings name);
+  summary = nat_lt 0 (count_by is_summary settings);
+}
