@@ -30,7 +30,7 @@ first_setting-words_of (apart name value) left = ap (option_and_then (λ begun. 
 first_setting-words_of (joined name value) left = ap (option_and_then (λ begun. first_with begun left)) (begins_joined name value)
 first_setting-words_of summary left = ap (option_and_then (λ begun. first_with begun left)) begins_summary
 
-then_some : {X Y : Type 0} (f : X → Option Y) (o : Option X) (y : Y) → option_and_then f o ≡ Some y → (x : X) × (o ≡ Some x) × (f x ≡ Some y)
+pub then_some : {X Y : Type 0} (f : X → Option Y) (o : Option X) (y : Y) → option_and_then f o ≡ Some y → (x : X) × (o ≡ Some x) × (f x ≡ Some y)
 then_some f None y is = cc
 then_some f (Some x) y is = (x, refl, is)
 

@@ -1,4 +1,6 @@
+pub mod Asked
 pub mod Begun
 pub mod Cuts
 pub mod Places
+pub mod Rules
 pub mod Taking

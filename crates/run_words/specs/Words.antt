@@ -12,12 +12,12 @@ use Rattle.run_words.specs.Values.{is_in_set}
 use Rattle.run_words.specs.Choice.{Choice, mode_in, chosen}
 
 -- an option doesn't stand, or its value is in its set
-abbrev pub is_taken : Name → Option (List ℕ) → Bool
-is_taken name None = true
-is_taken name (Some value) = is_in_set name value
+abbrev pub passes : (List ℕ → Bool) → Option (List ℕ) → Bool
+passes test None = true
+passes test (Some value) = test value
 
 abbrev pub AreInSets : Given → Type 0
-AreInSets given = (name : Name) → is_taken name (given.value name) ≡ true
+AreInSets given = (name : Name) → passes (is_in_set name) (given.value name) ≡ true
 
 -- the name is `-`
 abbrev pub is_standard : Option (List ℕ) → Bool
@@ -41,17 +41,17 @@ has_sums modes.Colors = false
 pub record SourceRules (mesh problem generate seed : Option (List ℕ)) : Type 0 where
   -- one of the mesh and the generator stands, and not both
   pub one_source : is_some mesh ≡ not (is_some generate)
-  pub no_problem : is_some problem && is_some generate ≡ false
-  pub no_seed : is_some seed && not (is_some generate) ≡ false
+  pub no_problem : (is_some problem && is_some generate) ≡ false
+  pub no_seed : (is_some seed && not (is_some generate)) ≡ false
   -- standard input is read once
-  pub one_input : is_standard mesh && is_standard problem ≡ false
+  pub one_input : (is_standard mesh && is_standard problem) ≡ false
 
 -- the rules between `--matrix`, `--rhs`, `--summary` and the mode
 pub record OutputRules (matrix rhs : Option (List ℕ)) (summary sums : Bool) : Type 0 where
   -- no name is written twice
-  pub two_names : are_same matrix rhs && not (is_standard matrix) ≡ false
-  pub needs_sums : (is_some rhs || summary) && not sums ≡ false
-  pub alone : summary && (is_some matrix || is_some rhs) ≡ false
+  pub two_names : (are_same matrix rhs && not (is_standard matrix)) ≡ false
+  pub needs_sums : ((is_some rhs || summary) && not sums) ≡ false
+  pub alone : (summary && (is_some matrix || is_some rhs)) ≡ false
 
 pub record KeepsRules (given : Given) : Type 0 where
   pub source : SourceRules (given.value names.Mesh) (given.value names.Problem) (given.value names.Generate) (given.value names.Seed)

@@ -5,6 +5,7 @@ mod choice;
 mod name;
 mod opening;
 mod options;
+mod reader;
 mod settings;
 mod values;
 
