@@ -21,6 +21,9 @@ use Rattle.run_words.specs.Words.{passes, AreInSets, is_standard, are_same, has_
 use Rattle.run_words.specs.Reading.{number_within, name_of, read_or, read_plan, two_texts, read_source, read_destination, is_same_name, two_outputs, read_output, reading, ◌>>=◌}
 use Rattle.run_words.proofs.Cuts.{then_some}
 
+injected : {X : Type 0} (x y : X) → Some x ≡ Some y → x ≡ y
+injected x y is = cc
+
 -- a number
 
 pub number_read : (least greatest default n : ℕ) (value : Option (List ℕ)) → read_or default (number_within least greatest) value ≡ Some n →
@@ -62,6 +65,21 @@ pub record PlanInSets (given : Given) : Type 0 where
 abbrev made : ℕ → ℕ → ℕ → ℕ → Plan
 made workers queue chunk scratch = record { workers = workers; queue = queue; chunk = chunk; scratch = scratch }
 
+plan_from : (given : Given) (plan : Plan) (w q c s : ℕ) → read_or 4 (number_within 1 64) (given.value names.Workers) ≡ Some w →
+    read_or (2 * w) (number_within 1 256) (given.value names.Queue) ≡ Some q → read_or 8 (number_within 1 64) (given.value names.Chunk) ≡ Some c →
+    read_or w (number_within 1 64) (given.value names.Scratch) ≡ Some s → made w q c s ≡ plan → PlanInSets given × (plan ≡ plan_of given)
+plan_from given plan w q c s w_read q_read c_read s_read is =
+    let workers = number_read 1 64 4 w (given.value names.Workers) w_read in
+    let queue = number_read 1 256 (2 * w) q (given.value names.Queue) q_read in
+    let chunk = number_read 1 64 8 c (given.value names.Chunk) c_read in
+    let scratch = number_read 1 64 w s (given.value names.Scratch) s_read in
+    (record { workers = workers.0; queue = queue.0; chunk = chunk.0; scratch = scratch.0 },
+    sym is
+    ∙ ap (λ n. made w n c s) queue.1
+    ∙ ap (λ n. made w (number_or (2 * w) (given.value names.Queue)) n s) chunk.1
+    ∙ ap (λ n. made w (number_or (2 * w) (given.value names.Queue)) (number_or 8 (given.value names.Chunk)) n) scratch.1
+    ∙ ap (λ n. made n (number_or (2 * n) (given.value names.Queue)) (number_or 8 (given.value names.Chunk)) (number_or n (given.value names.Scratch))) workers.1)
+
 pub plan_read : (given : Given) (plan : Plan) → read_plan given ≡ Some plan → PlanInSets given × (plan ≡ plan_of given)
 unfolding read_plan
 plan_read given plan read =
@@ -72,16 +90,7 @@ plan_read given plan read =
     let q = then_some (behind_queue w.0) (read_or (2 * w.0) (number_within 1 256) (given.value names.Queue)) plan w.2 in
     let c = then_some (behind_chunk w.0 q.0) (read_or 8 (number_within 1 64) (given.value names.Chunk)) plan q.2 in
     let s = then_some (λ s. Some (made w.0 q.0 c.0 s)) (read_or w.0 (number_within 1 64) (given.value names.Scratch)) plan c.2 in
-    let workers = number_read 1 64 4 w.0 (given.value names.Workers) w.1 in
-    let queue = number_read 1 256 (2 * w.0) q.0 (given.value names.Queue) q.1 in
-    let chunk = number_read 1 64 8 c.0 (given.value names.Chunk) c.1 in
-    let scratch = number_read 1 64 w.0 s.0 (given.value names.Scratch) s.1 in
-    (record { workers = workers.0; queue = queue.0; chunk = chunk.0; scratch = scratch.0 },
-    ap (λ o. unwrap_or o plan) (sym s.2)
-    ∙ ap (λ n. made w.0 n c.0 s.0) queue.1
-    ∙ ap (λ n. made w.0 (number_or (2 * w.0) (given.value names.Queue)) n s.0) chunk.1
-    ∙ ap (λ n. made w.0 (number_or (2 * w.0) (given.value names.Queue)) (number_or 8 (given.value names.Chunk)) n) scratch.1
-    ∙ ap (λ n. made n (number_or (2 * n) (given.value names.Queue)) (number_or 8 (given.value names.Chunk)) (number_or n (given.value names.Scratch))) workers.1)
+    plan_from given plan w.0 q.0 c.0 s.0 w.1 q.1 c.1 s.1 (injected (made w.0 q.0 c.0 s.0) plan s.2)
 
 pub plan_given : (given : Given) → PlanInSets given → read_plan given ≡ Some (plan_of given)
 unfolding read_plan
@@ -94,7 +103,7 @@ plan_given given in_sets =
 
 -- what is assembled
 
-and_false : (b : Bool) → (b && false) ≡ false
+pub and_false : (b : Bool) → (b && false) ≡ false
 and_false true = refl
 and_false false = refl
 
@@ -105,9 +114,6 @@ cond_then false x f y is = cc
 cond_else : {X : Type 0} (b : Bool) (x y : X) → cond b None (Some x) ≡ Some y → (b ≡ false) × (x ≡ y)
 cond_else true x y is = cc
 cond_else false x y is = (refl, (cc))
-
-injected : {X : Type 0} (x y : X) → Some x ≡ Some y → x ≡ y
-injected x y is = cc
 
 pub record SourceInSets (mesh problem generate seed : Option (List ℕ)) : Type 0 where
   pub mesh_in : passes is_name mesh ≡ true

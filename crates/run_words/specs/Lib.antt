@@ -6,3 +6,4 @@ pub mod Values
 pub mod Choice
 pub mod Words
 pub mod Reading
+pub mod Ordered

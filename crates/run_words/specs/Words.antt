@@ -1,5 +1,5 @@
 -- The words of the command line.
-use Rattle.std.specs.Prelude.{◌≡◌, ℕ, List, ◌∷◌, ◌++◌, Bool, true, false, ◌&&◌, ◌||◌, not, is_some, codes, Contains, ◌⊎◌, Some, None}
+use Rattle.std.specs.Prelude.{◌≡◌, ℕ, List, ◌∷◌, ◌++◌, Bool, true, false, ◌&&◌, ◌||◌, not, is_some, codes, ◌⊎◌, [], Some, None}
 use Rattle.std.specs.declared.option.Option.{Option}
 use Rattle.std.specs.List.{flat_map}
 use Rattle.std.specs.Str.{bytes_eq}
@@ -71,12 +71,12 @@ pub record AskFor (words : List (List ℕ)) (choice : Choice) : Type 0 where
 abbrev pub AskForNothing : List (List ℕ) → Type 0
 AskForNothing words = (choice : Choice) → AskFor words choice → ⊥
 
--- these two words stand in a row
-pub record StandInARow (first second : List ℕ) (words : List (List ℕ)) : Type 0 where
+-- these words stand in a row among the words
+pub record StandInARow (row words : List (List ℕ)) : Type 0 where
   pub before : List (List ℕ)
   pub behind : List (List ℕ)
-  pub words_are : words ≡ before ++ (first ∷ second ∷ behind)
+  pub words_are : words ≡ before ++ (row ++ behind)
 
 -- the words name the mode `ordered`, in two words in a row or in one
 abbrev pub NameOrdered : List (List ℕ) → Type 0
-NameOrdered words = StandInARow (codes "--mode") (codes "ordered") words ⊎ Contains words (codes "--mode=ordered")
+NameOrdered words = StandInARow (codes "--mode" ∷ codes "ordered" ∷ []) words ⊎ StandInARow (codes "--mode=ordered" ∷ []) words

@@ -8,5 +8,8 @@ mod options;
 mod reader;
 mod settings;
 mod values;
+mod wait;
 
 pub use options::{Destination, Faces, Mode, Options, Output, Plan, Source};
+pub use reader::{one_reading, read_words};
+pub use wait::{ordered_is_named, wants_wait};
