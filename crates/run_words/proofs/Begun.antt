@@ -1,5 +1,5 @@
 -- What words begin, and how settings are spelled.
-use Rattle.std.proofs.Common.{◌≡◌, ◌∙◌, ◌++◌, ap, sym, subst, ℕ, List, [], ◌∷◌, Bool, true, false, cond, refl, nat_eq, arith, append_assoc}
+use Rattle.std.proofs.Common.{◌≡◌, ◌∙◌, ◌++◌, ap, sym, subst, ℕ, List, [], ◌∷◌, Bool, true, false, cond, refl, append_assoc}
 use Rattle.std.specs.Prelude.{Some, None, codes, find}
 use Rattle.std.specs.declared.option.Option.{Option}
 use Rattle.std.specs.List.{list_any, before_first, after_first}
@@ -11,7 +11,7 @@ use Rattle.fem_fixed.proofs.Splits.{put_together}
 use Rattle.run_words.specs.declared.name.Name.{Name}
 use Rattle.run_words.specs.declared.name.Name.TheVariants as names
 use Rattle.run_words.specs.Names.{spelled, all_names}
-use Rattle.run_words.specs.Settings.{Setting, apart, joined, summary, words_of}
+use Rattle.run_words.specs.Settings.{joined, summary, words_of}
 use Rattle.run_words.specs.Openings.{Begins, whole, named, begins, find_name, joined_in, is_equals_sign}
 
 pub begins_name : (name : Name) → begins (spelled name) ≡ Some (named name)
@@ -53,9 +53,10 @@ begins_summary = refl
 found_passes : {X : Type 0} (p : X → Bool) (xs : List X) (x : X) → find p xs ≡ Some x → p x ≡ true
 found_passes p [] x found = cc
 found_passes p (y ∷ ys) x found =
-    (elim (p y) as (λ b. p y ≡ b → cond b (Some y) (find p ys) ≡ Some x → p x ≡ true)
-    [ true ↦ λ passes h. let e : y ≡ x = cc in subst (λ z. p z ≡ true) e passes
-    | false ↦ λ passes h. found_passes p ys x h ]) refl found
+    (elim (p y) as (λ b. p y ≡ b → cond b (Some y) (find p ys) ≡ Some x → p x ≡ true) [
+      | true ↦ λ passes h. let e : y ≡ x = cc in subst (λ z. p z ≡ true) e passes
+      | false ↦ λ passes h. found_passes p ys x h
+    ]) refl found
 
 pub find_name-spells : (word : List ℕ) (name : Name) → find_name word ≡ Some name → word ≡ spelled name
 unfolding find_name
@@ -76,9 +77,9 @@ joined_is_begun word begun has is =
     let cut = put_together is_equals_sign word has in
     let sign : cut.0 ≡ 61 = eqb-true cut.0 61 cut.1 in
     let word_is : word ≡ spelled found.0 ++ codes "=" ++ after_first is_equals_sign word =
-        cut.2 ∙ ap (λ y. before_first is_equals_sign word ++ y ∷ after_first is_equals_sign word) sign
-        ∙ ap (λ front. front ++ 61 ∷ after_first is_equals_sign word) (find_name-spells (before_first is_equals_sign word) found.0 found.1)
-        ∙ sym (append_assoc (spelled found.0) (codes "=") (after_first is_equals_sign word)) in
+    cut.2 ∙ ap (λ y. before_first is_equals_sign word ++ y ∷ after_first is_equals_sign word) sign
+    ∙ ap (λ front. front ++ 61 ∷ after_first is_equals_sign word) (find_name-spells (before_first is_equals_sign word) found.0 found.1)
+    ∙ sym (append_assoc (spelled found.0) (codes "=") (after_first is_equals_sign word)) in
     subst (λ b. IsBegun b word) found.2 (ap (λ w. w ∷ []) word_is)
 
 named_is_begun : (word : List ℕ) (begun : Begins) → option_map named (find_name word) ≡ Some begun → IsBegun begun word

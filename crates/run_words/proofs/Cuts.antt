@@ -1,19 +1,18 @@
 -- How words are cut into settings.
-use Rattle.std.proofs.Common.{◌≡◌, ◌∙◌, ◌+◌, ◌++◌, ◌≤◌, ◌<◌, ap, sym, subst, ℕ, List, [], ◌∷◌, length, map, Bool, true, false, cond, ◌||◌, refl, arith, suc, not, get_or, replicate, append_assoc, append-nil, Bor, String, string_bytes}
-use Rattle.std.specs.Prelude.{Some, None, codes, count_by, is_some, IsSome, unwrap_or}
+use Rattle.std.proofs.Common.{◌≡◌, ◌∙◌, ◌+◌, ◌++◌, ap, sym, subst, ℕ, List, [], ◌∷◌, length, Bool, true, false, cond, ◌||◌, refl, arith, suc, not, get_or, replicate, append_assoc, append-nil, Bor}
+use Rattle.std.specs.Prelude.{Some, None, IsSome}
 use Rattle.std.specs.declared.option.Option.{Option}
-use Rattle.std.specs.List.{list_any, position_or_len, prefix_len, flat_map, filter_map, cons_option}
+use Rattle.std.specs.List.{list_any, position_or_len, prefix_len, flat_map, cons_option}
 use Rattle.std.specs.Option.{option_copied, option_to_list, option_and_then}
-use Rattle.std.proofs.lemmas.List.{get_or-replicate, length-append}
+use Rattle.std.proofs.lemmas.List.{length-append}
 use Rattle.std.proofs.lemmas.List.Elements.{filter_map-append}
 use Rattle.std.proofs.lemmas.Grind.{flat_map-append}
 use Rattle.std.proofs.lemmas.List.Sums.{sum_by-append, sum_by-cons}
 use Rattle.std.proofs.Common.{zero}
-use Rattle.run_words.specs.declared.name.Name.{Name}
-use Rattle.run_words.specs.Names.{place_of, spelled}
+use Rattle.run_words.specs.Names.{place_of}
 use Rattle.run_words.specs.Settings.{Setting, Given, apart, joined, summary, words_of, gives_to, is_summary, values_of, StandsOnce}
 use Rattle.run_words.specs.Openings.{Begins, whole, named, begins}
-use Rattle.run_words.specs.Held.{Adds, Takes, CannotTake, no_setting, stands, valued, alone, Repeats, HoldsValues, Holds, HoldsSoFar, CannotHold, first_with, first_setting}
+use Rattle.run_words.specs.Held.{Takes, CannotTake, no_setting, stands, valued, alone, Repeats, HoldsValues, Holds, HoldsSoFar, CannotHold, first_with, first_setting}
 use Rattle.run_words.proofs.Begun.{begins_name, begins_joined, begins_summary, begins_tells, IsBegun}
 use Rattle.run_words.proofs.Places.{held_in}
 

@@ -3,10 +3,10 @@ use Rattle.std.proofs.Common.{◌≡◌, ◌∙◌, ap, sym, subst, ℕ, List, [
 use Rattle.run_words.proofs.Rules.{and_false}
 use Rattle.run_words.specs.declared.name.Name.TheVariants as names
 use Rattle.run_words.specs.declared.options.Mode.TheVariants as modes
-use Rattle.run_words.specs.Settings.{Setting, apart, joined, summary, words_of, gives_to, values_of, first_of, given_by}
-use Rattle.run_words.specs.Names.{spelled, same_name, place_of}
+use Rattle.run_words.specs.Settings.{Setting, apart, joined, summary, words_of, values_of, first_of}
+use Rattle.run_words.specs.Names.{spelled, same_name}
 use Rattle.run_words.specs.Values.{mode_of}
-use Rattle.run_words.specs.Choice.{Choice, mode_in, chosen, named_or}
+use Rattle.run_words.specs.Choice.{Choice, named_or}
 use Rattle.std.specs.Prelude.{Some, None, codes, ◌&&◌, ◌||◌, ◌⊎◌, ◌↔◌, IsTrue, unwrap_or}
 use Rattle.std.specs.declared.option.Option.{Option}
 use Rattle.std.specs.List.{flat_map, cons_option}
@@ -49,9 +49,10 @@ two_here word (next ∷ behind) is =
 named_here : (word : List ℕ) (behind : List (List ℕ)) → names_at word behind ≡ true → NameOrdered (word ∷ behind)
 unfolding names_at
 named_here word behind is =
-    (elim (bytes_eq word (codes "--mode=ordered")) as (λ b. bytes_eq word (codes "--mode=ordered") ≡ b → (b || (bytes_eq word (codes "--mode") && begins_with (codes "ordered") behind)) ≡ true → NameOrdered (word ∷ behind))
-    [ true ↦ λ same h. inr (record { before = []; behind = behind; words_are = ap (λ w. w ∷ behind) (equal word (codes "--mode=ordered") same) })
-    | false ↦ λ same h. two_here word behind h ]) refl is
+    (elim (bytes_eq word (codes "--mode=ordered")) as (λ b. bytes_eq word (codes "--mode=ordered") ≡ b → (b || (bytes_eq word (codes "--mode") && begins_with (codes "ordered") behind)) ≡ true → NameOrdered (word ∷ behind)) [
+      | true ↦ λ same h. inr (record { before = []; behind = behind; words_are = ap (λ w. w ∷ behind) (equal word (codes "--mode=ordered") same) })
+      | false ↦ λ same h. two_here word behind h
+    ]) refl is
 
 pub found_named : (words : List (List ℕ)) → names_ordered words ≡ true → NameOrdered words
 found_named [] is = cc
@@ -102,23 +103,25 @@ mode_stands [] value is = cc
 mode_stands (summary ∷ settings) value is = mode_behind value (words_of summary) (flat_map words_of settings) (mode_stands settings value is)
 mode_stands (apart name own ∷ settings) value is =
     (elim (same_name names.Mode name) as (λ b. same_name names.Mode name ≡ b → first_of (cons_option (cond b (Some own) None) (values_of settings names.Mode)) ≡ Some value →
-        ModeStands value (flat_map words_of (apart name own ∷ settings)))
-    [ true ↦ λ same h. inl (record {
+    ModeStands value (flat_map words_of (apart name own ∷ settings))) [
+      | true ↦ λ same h. inl (record {
         before = [];
         behind = flat_map words_of settings;
         words_are = ap (λ w. w ∷ own ∷ flat_map words_of settings) (spelled_mode name same) ∙ ap (λ v. codes "--mode" ∷ v ∷ flat_map words_of settings) (value_is own value h);
       })
-    | false ↦ λ same h. mode_behind value (words_of (apart name own)) (flat_map words_of settings) (mode_stands settings value h) ]) refl is
+      | false ↦ λ same h. mode_behind value (words_of (apart name own)) (flat_map words_of settings) (mode_stands settings value h)
+    ]) refl is
 mode_stands (joined name own ∷ settings) value is =
     (elim (same_name names.Mode name) as (λ b. same_name names.Mode name ≡ b → first_of (cons_option (cond b (Some own) None) (values_of settings names.Mode)) ≡ Some value →
-        ModeStands value (flat_map words_of (joined name own ∷ settings)))
-    [ true ↦ λ same h. inr (record {
+    ModeStands value (flat_map words_of (joined name own ∷ settings))) [
+      | true ↦ λ same h. inr (record {
         before = [];
         behind = flat_map words_of settings;
         words_are = ap (λ w. (w ++ codes "=" ++ own) ∷ flat_map words_of settings) (spelled_mode name same)
             ∙ ap (λ v. (codes "--mode" ++ codes "=" ++ v) ∷ flat_map words_of settings) (value_is own value h);
       })
-    | false ↦ λ same h. mode_behind value (words_of (joined name own)) (flat_map words_of settings) (mode_stands settings value h) ]) refl is
+      | false ↦ λ same h. mode_behind value (words_of (joined name own)) (flat_map words_of settings) (mode_stands settings value h)
+    ]) refl is
 
 only_ordered : (a b c d e : Bool) →
     unwrap_or (cond a (Some modes.Serial) (cond b (Some modes.Ordered) (cond c (Some modes.Colored) (cond d (Some modes.Pattern) (cond e (Some modes.Colors) None))))) modes.Serial ≡ modes.Ordered → b ≡ true

@@ -1,7 +1,7 @@
 -- Values by the places of their options.
-use Rattle.std.proofs.Common.{◌≡◌, ◌≢◌, ◌<◌, ◌∙◌, ap, sym, subst, ℕ, List, [], ◌∷◌, length, Bool, true, false, cond, refl, arith, nat_eq, get_or, Bor, lit<, eq-eqb}
+use Rattle.std.proofs.Common.{◌≡◌, ◌<◌, ◌∙◌, ap, sym, ℕ, List, length, Bool, true, false, cond, refl, arith, nat_eq, get_or, Bor, lit<, eq-eqb}
 use Rattle.std.proofs.Math.ListN.{set}
-use Rattle.std.proofs.lemmas.List.{get_or-set_same, get_or-set_other}
+use Rattle.std.proofs.lemmas.List.{get_or-set_other}
 use Rattle.std.proofs.lemmas.Grind.{common_steps}
 use Rattle.std.proofs.lemmas.Bool.Decides.{nat_tests}
 use borrow.Author.Tests.{eqb-true}
@@ -12,7 +12,7 @@ use Rattle.run_words.specs.declared.name.Name.{Name}
 use Rattle.run_words.specs.declared.name.Name.TheVariants as names
 use Rattle.run_words.specs.Names.{place_of, same_name}
 use Rattle.run_words.specs.Settings.{Given}
-use Rattle.run_words.specs.Held.{Sets, seen_settings}
+use Rattle.run_words.specs.Held.{Sets}
 
 pub get_or-set_by_test : {A : Type 0} (xs : List A) (i j : ℕ) (y d : A) → i < length xs → get_or (set xs i y) j d ≡ cond (nat_eq j i) y (get_or xs j d)
 get_or-set_by_test {A = A} xs i j y d within = grind (arith, nat_tests, common_steps, get_or-set_other {A = A})

@@ -1,6 +1,6 @@
 -- What is read is what the words ask for.
-use Rattle.std.proofs.Common.{◌≡◌, ◌∙◌, ◌*◌, ap, sym, subst, ℕ, List, [], ◌∷◌, Bool, true, false, cond, refl, not}
-use Rattle.std.specs.Prelude.{Some, None, is_some, unwrap_or, ◌&&◌, ◌||◌, codes}
+use Rattle.std.proofs.Common.{◌≡◌, ◌∙◌, ◌*◌, ap, sym, subst, ℕ, List, Bool, true, false, cond, refl, not}
+use Rattle.std.specs.Prelude.{Some, None, is_some, unwrap_or, ◌&&◌, codes}
 use Rattle.std.specs.Str.{bytes_eq}
 use Rattle.std.proofs.lemmas.Slice.Eq.{bytes_eq-Decides}
 use Rattle.run_words.specs.declared.options.Mode.{Mode}
@@ -11,7 +11,6 @@ use Rattle.std.specs.declared.option.Option.{Option}
 use Rattle.std.specs.Option.{option_map, option_and_then}
 use Rattle.std.proofs.lemmas.Option.{cond_some}
 use Rattle.fem_fixed.specs.Numbers.{digits_value}
-use Rattle.run_words.specs.declared.name.Name.{Name}
 use Rattle.run_words.specs.declared.name.Name.TheVariants as names
 use Rattle.run_words.specs.declared.options.Plan.{Plan}
 use Rattle.run_words.specs.Settings.{Given}
@@ -72,13 +71,14 @@ plan_from given plan w q c s w_read q_read c_read s_read is =
     let workers = number_read 1 64 4 w (given.value names.Workers) w_read in
     let queue = number_read 1 256 (2 * w) q (given.value names.Queue) q_read in
     let chunk = number_read 1 64 8 c (given.value names.Chunk) c_read in
-    let scratch = number_read 1 64 w s (given.value names.Scratch) s_read in
-    (record { workers = workers.0; queue = queue.0; chunk = chunk.0; scratch = scratch.0 },
-    sym is
-    ∙ ap (λ n. made w n c s) queue.1
-    ∙ ap (λ n. made w (number_or (2 * w) (given.value names.Queue)) n s) chunk.1
-    ∙ ap (λ n. made w (number_or (2 * w) (given.value names.Queue)) (number_or 8 (given.value names.Chunk)) n) scratch.1
-    ∙ ap (λ n. made n (number_or (2 * n) (given.value names.Queue)) (number_or 8 (given.value names.Chunk)) (number_or n (given.value names.Scratch))) workers.1)
+    let scratch = number_read 1 64 w s (given.value names.Scratch) s_read in (
+      record { workers = workers.0; queue = queue.0; chunk = chunk.0; scratch = scratch.0 },
+      sym is
+          ∙ ap (λ n. made w n c s) queue.1
+          ∙ ap (λ n. made w (number_or (2 * w) (given.value names.Queue)) n s) chunk.1
+          ∙ ap (λ n. made w (number_or (2 * w) (given.value names.Queue)) (number_or 8 (given.value names.Chunk)) n) scratch.1
+          ∙ ap (λ n. made n (number_or (2 * n) (given.value names.Queue)) (number_or 8 (given.value names.Chunk)) (number_or n (given.value names.Scratch))) workers.1,
+    )
 
 pub plan_read : (given : Given) (plan : Plan) → read_plan given ≡ Some plan → PlanInSets given × (plan ≡ plan_of given)
 unfolding read_plan
@@ -94,7 +94,7 @@ plan_read given plan read =
 
 pub plan_given : (given : Given) → PlanInSets given → read_plan given ≡ Some (plan_of given)
 unfolding read_plan
-plan_given given in_sets = 
+plan_given given in_sets =
     let workers = number_given 1 64 4 (given.value names.Workers) in_sets.workers in
     let queue = number_given 1 256 (2 * number_or 4 (given.value names.Workers)) (given.value names.Queue) in_sets.queue in
     let chunk = number_given 1 64 8 (given.value names.Chunk) in_sets.chunk in
@@ -271,12 +271,12 @@ unfolding reading is_in_set
 reading_given given in_sets rules =
     let mode = named_given mode_of modes.Serial (given.value names.Mode) (in_sets names.Mode) in
     let source = source_given (given.value names.Mesh) (given.value names.Problem) (given.value names.Generate) (given.value names.Seed)
-        (record { mesh_in = in_sets names.Mesh; problem_in = in_sets names.Problem; generate_in = in_sets names.Generate; seed_in = in_sets names.Seed }) rules.source in
+    (record { mesh_in = in_sets names.Mesh; problem_in = in_sets names.Problem; generate_in = in_sets names.Generate; seed_in = in_sets names.Seed }) rules.source in
     let plan = plan_given given (record { workers = in_sets names.Workers; queue = in_sets names.Queue; chunk = in_sets names.Chunk; scratch = in_sets names.Scratch }) in
     let digits = number_given 0 64 0 (given.value names.Digits) (in_sets names.Digits) in
     let faces = named_given faces_of faces.None (given.value names.Faces) (in_sets names.Faces) in
     let output = output_given (given.value names.Matrix) (given.value names.Rhs) given.summary (has_sums (mode_in given))
-        (record { matrix_in = in_sets names.Matrix; rhs_in = in_sets names.Rhs }) rules.output in
+    (record { matrix_in = in_sets names.Matrix; rhs_in = in_sets names.Rhs }) rules.output in
     rw (mode, source, plan, digits, faces, output) refl
 
 abbrev put_together : Mode → Source → Plan → ℕ → Faces → Output → Choice
@@ -338,12 +338,12 @@ pub reading_tells : (given : Given) (choice : Choice) → reading given ≡ Some
 unfolding reading
 reading_tells given choice read =
     let behind_faces : Mode → Source → Plan → ℕ → Faces → Option Choice = λ m s p d f.
-        read_output (given.value names.Matrix) (given.value names.Rhs) given.summary (has_sums m) >>= (λ o. Some (put_together m s p d f o)) in
+    read_output (given.value names.Matrix) (given.value names.Rhs) given.summary (has_sums m) >>= (λ o. Some (put_together m s p d f o)) in
     let behind_digits : Mode → Source → Plan → ℕ → Option Choice = λ m s p d. read_or faces.None faces_of (given.value names.Faces) >>= (λ f. behind_faces m s p d f) in
     let behind_plan : Mode → Source → Plan → Option Choice = λ m s p. read_or 0 (number_within 0 64) (given.value names.Digits) >>= (λ d. behind_digits m s p d) in
     let behind_source : Mode → Source → Option Choice = λ m s. read_plan given >>= (λ p. behind_plan m s p) in
     let behind_mode : Mode → Option Choice = λ m.
-        read_source (given.value names.Mesh) (given.value names.Problem) (given.value names.Generate) (given.value names.Seed) >>= (λ s. behind_source m s) in
+    read_source (given.value names.Mesh) (given.value names.Problem) (given.value names.Generate) (given.value names.Seed) >>= (λ s. behind_source m s) in
     let m = then_some behind_mode (read_or modes.Serial mode_of (given.value names.Mode)) choice read in
     let s = then_some (behind_source m.0) (read_source (given.value names.Mesh) (given.value names.Problem) (given.value names.Generate) (given.value names.Seed)) choice m.2 in
     let p = then_some (behind_plan m.0 s.0) (read_plan given) choice s.2 in

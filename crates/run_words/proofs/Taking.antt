@@ -1,15 +1,15 @@
 -- What taking a setting does.
-use Rattle.std.proofs.Common.{◌≡◌, ◌≢◌, ◌<◌, ◌∙◌, ◌++◌, ◌+◌, ap, sym, subst, ℕ, List, [], ◌∷◌, length, Bool, true, false, cond, refl, arith, nat_eq, append-nil, get_or, take, drop, map, ◌≤◌, ◌-◌, suc}
+use Rattle.std.proofs.Common.{◌≡◌, ◌∙◌, ◌++◌, ap, sym, ℕ, List, [], ◌∷◌, length, Bool, true, false, cond, refl, arith, append-nil, get_or, take, drop, map, ◌≤◌, ◌-◌, suc}
 use Rattle.std.proofs.Math.Seq.{take-length}
-use Rattle.std.specs.Prelude.{Some, None, is_some, IsSome, count_by}
+use Rattle.std.specs.Prelude.{Some, None, IsSome}
 use Rattle.std.specs.declared.option.Option.{Option}
 use Rattle.std.specs.Option.{option_to_list, option_and_then, option_map}
 use Rattle.run_words.specs.declared.name.Name.{Name}
-use Rattle.run_words.specs.Names.{place_of, same_name}
-use Rattle.run_words.specs.Settings.{Setting, Given, apart, joined, summary, gives_to, is_summary}
-use Rattle.run_words.specs.Openings.{Begins, whole, named, begins, seen_opening}
+use Rattle.run_words.specs.Names.{same_name}
+use Rattle.run_words.specs.Settings.{Setting, Given, apart, joined, summary}
+use Rattle.run_words.specs.Openings.{whole, named, begins, seen_opening}
 use Rattle.run_words.specs.declared.opening.Opening as rust
-use Rattle.run_words.specs.Held.{Sets, Adds, Takes, CannotTake, no_setting, stands, valued, alone, Repeats, first_with, first_setting}
+use Rattle.run_words.specs.Held.{Sets, Adds, Takes, CannotTake, stands, valued, alone, first_with}
 use Rattle.run_words.proofs.Places.{names_are_one, same_name-refl}
 
 -- the value of an option, with what a setting of another or the same one gives

@@ -1,12 +1,12 @@
 -- What the reader holds of the settings that it took.
-use Rattle.std.specs.Prelude.{◌≡◌, ◌+◌, ℕ, List, [], ◌∷◌, ◌++◌, Bool, true, false, ◌||◌, count_by, slice_index_or, if◌then◌else◌, IsSome, Some, None}
+use Rattle.std.specs.Prelude.{◌≡◌, ◌+◌, ℕ, List, [], ◌∷◌, ◌++◌, true, count_by, slice_index_or, if◌then◌else◌, IsSome, Some, None}
 use Rattle.std.specs.declared.option.Option.{Option}
 use Rattle.std.specs.List.{flat_map}
 use Rattle.std.specs.Option.{option_copied, option_to_list, option_and_then}
 use Rattle.run_words.specs.declared.name.Name.{Name}
 use Rattle.run_words.specs.Names.{place_of, same_name}
 use Rattle.run_words.specs.declared.settings.Settings as rust
-use Rattle.run_words.specs.Settings.{Setting, Given, apart, joined, summary, words_of, gives_to, is_summary, values_of, StandsOnce}
+use Rattle.run_words.specs.Settings.{Setting, Given, apart, words_of, gives_to, is_summary, values_of, StandsOnce}
 use Rattle.run_words.specs.Openings.{Begins, whole, named, begins}
 
 abbrev pub seen_settings : rust.Settings → Given

@@ -1,12 +1,12 @@
 -- What a word begins, as the reader takes the words.
-use Rattle.std.specs.Prelude.{ℕ, List, [], ◌∷◌, Bool, ◌==◌, codes, find, if◌then◌else◌, Some, None}
+use Rattle.std.specs.Prelude.{ℕ, List, Bool, ◌==◌, codes, find, if◌then◌else◌, Some}
 use Rattle.std.specs.declared.option.Option.{Option}
 use Rattle.std.specs.List.{before_first, after_first, list_any}
-use Rattle.std.specs.Option.{option_map, option_and_then}
+use Rattle.std.specs.Option.{option_map}
 use Rattle.std.specs.Str.{bytes_eq}
 use Rattle.run_words.specs.declared.name.Name.{Name}
 use Rattle.run_words.specs.Names.{spelled, all_names}
-use Rattle.run_words.specs.Settings.{Setting, apart, joined, summary}
+use Rattle.run_words.specs.Settings.{Setting, joined, summary}
 use Rattle.run_words.specs.declared.opening.Opening as rust
 use Rattle.run_words.specs.declared.opening.Opening.TheVariants as openings
 
@@ -38,4 +38,3 @@ abbrev pub seen_opening : rust.Opening → Begins
 seen_opening openings.Summary = whole summary
 seen_opening (openings.Joined name value) = whole (joined name value.now)
 seen_opening (openings.Apart name) = named name
-

@@ -1,5 +1,5 @@
 -- The search for the mode `ordered`, word by word.
-use Rattle.std.specs.Prelude.{ℕ, List, [], ◌∷◌, Bool, true, false, ◌&&◌, ◌||◌, codes}
+use Rattle.std.specs.Prelude.{ℕ, List, [], ◌∷◌, Bool, false, ◌&&◌, ◌||◌, codes}
 use Rattle.std.specs.Str.{bytes_eq}
 
 abbrev pub begins_with : List ℕ → List (List ℕ) → Bool

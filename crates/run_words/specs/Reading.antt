@@ -1,25 +1,22 @@
 -- How values are read, one option after another.
-use Rattle.std.specs.Prelude.{◌≡◌, ℕ, ◌*◌, List, Bool, true, false, ◌&&◌, ◌||◌, not, codes, is_some, if◌then◌else◌, Some, None}
+use Rattle.std.specs.Prelude.{ℕ, ◌*◌, List, Bool, true, false, ◌&&◌, codes, if◌then◌else◌, Some, None}
 use Rattle.std.specs.declared.option.Option.{Option}
 use Rattle.std.specs.Option.{option_map, option_and_then}
 use Rattle.std.specs.Str.{bytes_eq}
 use Rattle.fem_fixed.specs.Numbers.{digits_value}
 use Rattle.run_words.specs.declared.name.Name.TheVariants as names
-use Rattle.run_words.specs.declared.options.Mode.{Mode}
 use Rattle.run_words.specs.declared.options.Mode.TheVariants as modes
-use Rattle.run_words.specs.declared.options.Faces.{Faces}
 use Rattle.run_words.specs.declared.options.Faces.TheVariants as faces
 use Rattle.run_words.specs.declared.options.Plan.{Plan}
 use Rattle.run_words.specs.Settings.{Given}
 use Rattle.run_words.specs.Values.{is_name, is_number, is_number_within, mode_of, faces_of}
 use Rattle.run_words.specs.Choice.{Source, texts, generated, Destination, standard, named, Output, summary, both, destination_of, Choice}
-use Rattle.run_words.specs.Words.{is_standard, has_sums}
+use Rattle.run_words.specs.Words.{has_sums}
 
 abbrev pub ◌>>=◌ : {X Y : Type 0} → Option X → (X → Option Y) → Option Y
 o >>= f = option_and_then f o
 
 infixl 1 ◌>>=◌
-
 abbrev pub number_of : List ℕ → Option ℕ
 number_of word = if is_number word then Some (digits_value word) else None
 

@@ -1,7 +1,7 @@
 -- Settings: the options of a line of words, each with its value.
-use Rattle.std.specs.Prelude.{◌≡◌, ◌≤◌, ℕ, List, [], ◌∷◌, ◌++◌, length, codes, Bool, true, false, count_by, if◌then◌else◌, nat_lt, Some, None}
+use Rattle.std.specs.Prelude.{◌≤◌, ℕ, List, [], ◌∷◌, ◌++◌, length, codes, Bool, true, false, count_by, if◌then◌else◌, nat_lt, Some, None}
 use Rattle.std.specs.declared.option.Option.{Option}
-use Rattle.std.specs.List.{filter_map, flat_map}
+use Rattle.std.specs.List.{filter_map}
 use Rattle.run_words.specs.declared.name.Name.{Name}
 use Rattle.run_words.specs.Names.{spelled, same_name}
 

@@ -1,5 +1,5 @@
 -- The values that options take.
-use Rattle.std.specs.Prelude.{ℕ, ◌^◌, List, [], length, Bool, true, ◌&&◌, ◌||◌, not, nat_eq, nat_lt, nat_le, codes, is_some, if◌then◌else◌, Some, None}
+use Rattle.std.specs.Prelude.{ℕ, List, [], length, Bool, ◌&&◌, ◌||◌, not, nat_eq, nat_lt, nat_le, codes, is_some, if◌then◌else◌, Some, None}
 use Rattle.std.specs.Char.{is_ascii_digit}
 use Rattle.std.specs.declared.option.Option.{Option}
 use Rattle.std.specs.List.{list_all, starts_with}

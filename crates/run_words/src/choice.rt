@@ -136,7 +136,10 @@ fn output_of<'a>(
         (None, None, true) if has_sums => Some(Output::Summary),
         (matrix, None, false) => {
             let matrix = destination_or_standard(matrix)?;
-            Some(Output::Texts { matrix, rhs: None })
+            Some(Output::Texts {
+                matrix,
+                right_side: None,
+            })
         }
         (matrix, Some(rhs), false) if has_sums => {
             let matrix = destination_or_standard(matrix)?;
@@ -156,7 +159,7 @@ fn two_outputs<'a>(matrix: Destination<'a>, rhs: Destination<'a>) -> Option<Outp
     }
     Some(Output::Texts {
         matrix,
-        rhs: Some(rhs),
+        right_side: Some(rhs),
     })
 }
 

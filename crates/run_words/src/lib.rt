@@ -7,6 +7,8 @@ mod opening;
 mod options;
 mod reader;
 mod settings;
+#[cfg(test)]
+mod tests;
 mod values;
 mod wait;
 

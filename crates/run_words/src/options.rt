@@ -33,7 +33,10 @@ pub enum Source<'a> {
         problem: Option<&'a str>,
     },
     /// The texts that are generated for n cells in a row and a seed.
-    Generated { n: u32, seed: u64 },
+    Generated {
+        n: u32,
+        seed: u64,
+    },
 }
 
 /// How many threads, places in a queue, cells in a piece and scratch objects a parallel mode uses.
@@ -62,7 +65,7 @@ pub enum Output<'a> {
     /// The matrix, pattern or colours, and the right side where it has a destination.
     Texts {
         matrix: Destination<'a>,
-        rhs: Option<Destination<'a>>,
+        right_side: Option<Destination<'a>>,
     },
 }
 

@@ -36,12 +36,7 @@ pub(crate) fn number_within(word: &str, least: u64, greatest: u64) -> Option<u64
 }
 
 /// The number of a value, from a least one to a greatest, or the default where there is none.
-pub(crate) fn number_or(
-    default: u32,
-    least: u32,
-    greatest: u32,
-    value: Option<&str>,
-) -> Option<u32>
+pub(crate) fn number_or(default: u32, least: u32, greatest: u32, value: Option<&str>) -> Option<u32>
     ensures { result ≡ read_or default (number_within least greatest) (option_copied value.entry) }
 {
     match value {

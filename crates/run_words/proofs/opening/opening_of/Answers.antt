@@ -1,4 +1,4 @@
-use Rattle.std.proofs.Common.{◌≡◌, Bool, false, length, arith}
+use Rattle.std.proofs.Common.{◌≡◌, false, length, arith}
 use Rattle.std.proofs.lemmas.Grind.{common_steps}
 use Rattle.std.specs.List.{list_any, position_or_len}
 use Rattle.run_words.specs.Openings.{begins, is_equals_sign}

@@ -1,4 +1,4 @@
-use Rattle.std.proofs.Common.{◌≡◌, ◌∙◌, ap, sym, map, string_bytes, length, take, drop, ◌-◌, ◌||◌, List, ℕ, ◌∷◌}
+use Rattle.std.proofs.Common.{◌∙◌, ap, sym, map, string_bytes, length, take, drop, ◌-◌, ◌||◌, List, ℕ}
 use Rattle.run_words.specs.Ordered.{names_ordered, names_at}
 use Rattle.run_words.proofs.NamedModes.{tells_named, none_named}
 use Rattle.run_words.proofs.Taking.{map-front}

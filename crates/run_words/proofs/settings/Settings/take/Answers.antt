@@ -1,5 +1,5 @@
 use Rattle.std.proofs.Common.{map, string_bytes, subst, sym, ◌∙◌, ap, List, ℕ, ◌∷◌, length, take, drop, ◌-◌}
-use Rattle.std.specs.Prelude.{IfNone, Some}
+use Rattle.std.specs.Prelude.{Some}
 use Rattle.run_words.specs.Held.{Takes, Sets, CannotTake, seen_settings}
 use Rattle.run_words.specs.declared.opening.Opening.TheVariants as openings
 use Rattle.run_words.specs.Settings.{joined, summary}
