@@ -2,6 +2,7 @@ ghost use Rattle.std.specs.Prelude.{◌≡◌};
 ghost use Rattle.grid_texts.specs.Draws.{state_after, draw};
 
 /// The draws of a seed, one after another.
+#[derive(Drop)]
 pub(crate) struct Draws {
     pub(crate) state: u64,
 }
