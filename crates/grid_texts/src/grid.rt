@@ -10,7 +10,9 @@ use std::alloc::Global;
 
 // The longest lines: `263169 1022.25 1022.25 0`, `262144 4 quad 262655 262656 263169 263168` and the head.
 const NODE_LINE: usize = 25;
+
 const CELL_LINE: usize = 42;
+
 const HEAD_LINE: usize = 20;
 
 /// The two texts of a grid.
@@ -90,6 +92,7 @@ fn problem_text(alloc: Global, n: u32) -> Result<Vec<u8>, NoMemory>
 fn problem_head(alloc: Global) -> Result<Vec<u8>, NoMemory>
     ensures { IfOk result (λ text. text.items ≡ problem_head) }
 {
-    let lines = b"diffusion 1 1\ndiffusion 2 0.5\ndiffusion 3 3\ndiffusion 4 0.001\nsource 1 1\nsource 3 2\ndirichlet 0 0\npenalty 0.01\nrefine 0 ";
+    let lines =
+        b"diffusion 1 1\ndiffusion 2 0.5\ndiffusion 3 3\ndiffusion 4 0.001\nsource 1 1\nsource 3 2\ndirichlet 0 0\npenalty 0.01\nrefine 0 ";
     Ok(Vec::from_slice(alloc, lines)?)
 }
