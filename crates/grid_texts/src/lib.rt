@@ -1,0 +1,11 @@
+//! Square grids with drawn materials and shifted nodes, and their problem, as texts.
+#![tactic(auto)]
+
+mod cells;
+mod draws;
+mod grid;
+mod nodes;
+#[cfg(test)]
+mod tests;
+
+pub use grid::{GridTexts, generate};

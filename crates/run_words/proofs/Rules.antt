@@ -1,0 +1,353 @@
+-- What is read is what the words ask for.
+use Rattle.std.proofs.Common.{◌≡◌, ◌∙◌, ◌*◌, ap, sym, subst, ℕ, List, Bool, true, false, cond, refl, not}
+use Rattle.std.specs.Prelude.{Some, None, is_some, unwrap_or, ◌&&◌, codes}
+use Rattle.std.specs.Str.{bytes_eq}
+use Rattle.std.proofs.lemmas.Slice.Eq.{bytes_eq-Decides}
+use Rattle.run_words.specs.declared.options.Mode.{Mode}
+use Rattle.run_words.specs.declared.options.Mode.TheVariants as modes
+use Rattle.run_words.specs.declared.options.Faces.{Faces}
+use Rattle.run_words.specs.declared.options.Faces.TheVariants as faces
+use Rattle.std.specs.declared.option.Option.{Option}
+use Rattle.std.specs.Option.{option_map, option_and_then}
+use Rattle.std.proofs.lemmas.Option.{cond_some}
+use Rattle.fem_fixed.specs.Numbers.{digits_value}
+use Rattle.run_words.specs.declared.name.Name.TheVariants as names
+use Rattle.run_words.specs.declared.options.Plan.{Plan}
+use Rattle.run_words.specs.Settings.{Given}
+use Rattle.run_words.specs.Values.{is_name, is_number_within, mode_of, faces_of, is_in_set}
+use Rattle.run_words.specs.Choice.{Source, texts, generated, Destination, standard, named, Output, summary, both, destination_of, Choice, number_or, named_or, plan_of, source_of, output_of, mode_in, chosen}
+use Rattle.run_words.specs.Words.{passes, AreInSets, is_standard, are_same, has_sums, SourceRules, OutputRules, KeepsRules}
+use Rattle.run_words.specs.Reading.{number_within, name_of, read_or, read_plan, two_texts, read_source, read_destination, is_same_name, two_outputs, read_output, reading, ◌>>=◌}
+use Rattle.run_words.proofs.Cuts.{then_some}
+
+injected : {X : Type 0} (x y : X) → Some x ≡ Some y → x ≡ y
+injected x y is = cc
+
+-- a number
+
+pub number_read : (least greatest default n : ℕ) (value : Option (List ℕ)) → read_or default (number_within least greatest) value ≡ Some n →
+    (passes (is_number_within least greatest) value ≡ true) × (n ≡ number_or default value)
+number_read least greatest default n None read = (refl, (cc))
+number_read least greatest default n (Some word) read =
+    let found = cond_some (is_number_within least greatest word) (digits_value word) n read in
+    (found.0, sym found.1)
+
+pub number_given : (least greatest default : ℕ) (value : Option (List ℕ)) → passes (is_number_within least greatest) value ≡ true →
+    read_or default (number_within least greatest) value ≡ Some (number_or default value)
+number_given least greatest default None in_set = refl
+number_given least greatest default (Some word) in_set = rw in_set refl
+
+-- what a value names
+
+pub named_read : {X : Type 0} (find : List ℕ → Option X) (default x : X) (value : Option (List ℕ)) → read_or default find value ≡ Some x →
+    (passes (λ word. is_some (find word)) value ≡ true) × (x ≡ named_or default find value)
+named_read find default x None read = (refl, (cc))
+named_read find default x (Some word) read = rw read (refl, refl)
+
+found_is : {X : Type 0} (found : Option X) (default : X) → is_some found ≡ true → found ≡ Some (unwrap_or found default)
+found_is None default some = cc
+found_is (Some x) default some = refl
+
+pub named_given : {X : Type 0} (find : List ℕ → Option X) (default : X) (value : Option (List ℕ)) → passes (λ word. is_some (find word)) value ≡ true →
+    read_or default find value ≡ Some (named_or default find value)
+named_given find default None in_set = refl
+named_given find default (Some word) in_set = found_is (find word) default in_set
+
+-- the numbers of a plan
+
+pub record PlanInSets (given : Given) : Type 0 where
+  pub workers : passes (is_number_within 1 64) (given.value names.Workers) ≡ true
+  pub queue : passes (is_number_within 1 256) (given.value names.Queue) ≡ true
+  pub chunk : passes (is_number_within 1 64) (given.value names.Chunk) ≡ true
+  pub scratch : passes (is_number_within 1 64) (given.value names.Scratch) ≡ true
+
+abbrev made : ℕ → ℕ → ℕ → ℕ → Plan
+made workers queue chunk scratch = record { workers = workers; queue = queue; chunk = chunk; scratch = scratch }
+
+plan_from : (given : Given) (plan : Plan) (w q c s : ℕ) → read_or 4 (number_within 1 64) (given.value names.Workers) ≡ Some w →
+    read_or (2 * w) (number_within 1 256) (given.value names.Queue) ≡ Some q → read_or 8 (number_within 1 64) (given.value names.Chunk) ≡ Some c →
+    read_or w (number_within 1 64) (given.value names.Scratch) ≡ Some s → made w q c s ≡ plan → PlanInSets given × (plan ≡ plan_of given)
+plan_from given plan w q c s w_read q_read c_read s_read is =
+    let workers = number_read 1 64 4 w (given.value names.Workers) w_read in
+    let queue = number_read 1 256 (2 * w) q (given.value names.Queue) q_read in
+    let chunk = number_read 1 64 8 c (given.value names.Chunk) c_read in
+    let scratch = number_read 1 64 w s (given.value names.Scratch) s_read in (
+      record { workers = workers.0; queue = queue.0; chunk = chunk.0; scratch = scratch.0 },
+      sym is
+          ∙ ap (λ n. made w n c s) queue.1
+          ∙ ap (λ n. made w (number_or (2 * w) (given.value names.Queue)) n s) chunk.1
+          ∙ ap (λ n. made w (number_or (2 * w) (given.value names.Queue)) (number_or 8 (given.value names.Chunk)) n) scratch.1
+          ∙ ap (λ n. made n (number_or (2 * n) (given.value names.Queue)) (number_or 8 (given.value names.Chunk)) (number_or n (given.value names.Scratch))) workers.1,
+    )
+
+pub plan_read : (given : Given) (plan : Plan) → read_plan given ≡ Some plan → PlanInSets given × (plan ≡ plan_of given)
+unfolding read_plan
+plan_read given plan read =
+    let behind_chunk : ℕ → ℕ → ℕ → Option Plan = λ w q c. read_or w (number_within 1 64) (given.value names.Scratch) >>= (λ s. Some (made w q c s)) in
+    let behind_queue : ℕ → ℕ → Option Plan = λ w q. read_or 8 (number_within 1 64) (given.value names.Chunk) >>= (λ c. behind_chunk w q c) in
+    let behind_workers : ℕ → Option Plan = λ w. read_or (2 * w) (number_within 1 256) (given.value names.Queue) >>= (λ q. behind_queue w q) in
+    let w = then_some behind_workers (read_or 4 (number_within 1 64) (given.value names.Workers)) plan read in
+    let q = then_some (behind_queue w.0) (read_or (2 * w.0) (number_within 1 256) (given.value names.Queue)) plan w.2 in
+    let c = then_some (behind_chunk w.0 q.0) (read_or 8 (number_within 1 64) (given.value names.Chunk)) plan q.2 in
+    let s = then_some (λ s. Some (made w.0 q.0 c.0 s)) (read_or w.0 (number_within 1 64) (given.value names.Scratch)) plan c.2 in
+    plan_from given plan w.0 q.0 c.0 s.0 w.1 q.1 c.1 s.1 (injected (made w.0 q.0 c.0 s.0) plan s.2)
+
+pub plan_given : (given : Given) → PlanInSets given → read_plan given ≡ Some (plan_of given)
+unfolding read_plan
+plan_given given in_sets =
+    let workers = number_given 1 64 4 (given.value names.Workers) in_sets.workers in
+    let queue = number_given 1 256 (2 * number_or 4 (given.value names.Workers)) (given.value names.Queue) in_sets.queue in
+    let chunk = number_given 1 64 8 (given.value names.Chunk) in_sets.chunk in
+    let scratch = number_given 1 64 (number_or 4 (given.value names.Workers)) (given.value names.Scratch) in_sets.scratch in
+    rw (workers, queue, chunk, scratch) refl
+
+-- what is assembled
+
+pub and_false : (b : Bool) → (b && false) ≡ false
+and_false true = refl
+and_false false = refl
+
+cond_then : {X Y : Type 0} (b : Bool) (x : X) (f : X → Option Y) (y : Y) → option_and_then f (cond b (Some x) None) ≡ Some y → (b ≡ true) × (f x ≡ Some y)
+cond_then true x f y is = (refl, is)
+cond_then false x f y is = cc
+
+cond_else : {X : Type 0} (b : Bool) (x y : X) → cond b None (Some x) ≡ Some y → (b ≡ false) × (x ≡ y)
+cond_else true x y is = cc
+cond_else false x y is = (refl, (cc))
+
+pub record SourceInSets (mesh problem generate seed : Option (List ℕ)) : Type 0 where
+  pub mesh_in : passes is_name mesh ≡ true
+  pub problem_in : passes is_name problem ≡ true
+  pub generate_in : passes (is_number_within 1 512) generate ≡ true
+  pub seed_in : passes (is_number_within 0 18446744073709551615) seed ≡ true
+
+-- what is read keeps the rules, and is what is meant
+pub record SourceRead (mesh problem generate seed : Option (List ℕ)) (source : Source) : Type 0 where
+  pub in_sets : SourceInSets mesh problem generate seed
+  pub rules : SourceRules mesh problem generate seed
+  pub source_is : source ≡ source_of mesh problem generate seed
+
+pub source_read : (mesh problem generate seed : Option (List ℕ)) (source : Source) → read_source mesh problem generate seed ≡ Some source → SourceRead mesh problem generate seed source
+unfolding read_source
+source_read (Some mesh) None None None source read =
+    let found = cond_then (is_name mesh) mesh (λ name. Some (texts name None)) source read in
+    record {
+      in_sets = record { mesh_in = found.0; problem_in = refl; generate_in = refl; seed_in = refl };
+      rules = record { one_source = refl; no_problem = refl; no_seed = refl; one_input = and_false (bytes_eq mesh (codes "-")) };
+      source_is = sym (injected (texts mesh None) source found.1);
+    }
+source_read (Some mesh) (Some problem) None None source read =
+    let first = cond_then (is_name mesh) mesh (λ name. name_of problem >>= (λ second. two_texts name second)) source read in
+    let second = cond_then (is_name problem) problem (λ name. two_texts mesh name) source first.1 in
+    let apart = cond_else (is_standard (Some mesh) && is_standard (Some problem)) (texts mesh (Some problem)) source second.1 in
+    record {
+      in_sets = record { mesh_in = first.0; problem_in = second.0; generate_in = refl; seed_in = refl };
+      rules = record { one_source = refl; no_problem = refl; no_seed = refl; one_input = apart.0 };
+      source_is = sym apart.1;
+    }
+source_read None None (Some cells) seed source read =
+    let found = cond_then (is_number_within 1 512 cells) (digits_value cells) (λ n. read_or 0 (number_within 0 18446744073709551615) seed >>= (λ s. Some (generated n s))) source read in
+    let more = then_some (λ s. Some (generated (digits_value cells) s)) (read_or 0 (number_within 0 18446744073709551615) seed) source found.1 in
+    let number = number_read 0 18446744073709551615 0 more.0 seed more.1 in
+    record {
+      in_sets = record { mesh_in = refl; problem_in = refl; generate_in = found.0; seed_in = number.0 };
+      rules = record { one_source = refl; no_problem = refl; no_seed = and_false (is_some seed); one_input = refl };
+      source_is = sym (injected (generated (digits_value cells) more.0) source more.2) ∙ ap (λ s. generated (digits_value cells) s) number.1;
+    }
+source_read _ _ _ _ source read = cc
+
+pub source_given : (mesh problem generate seed : Option (List ℕ)) → SourceInSets mesh problem generate seed → SourceRules mesh problem generate seed →
+    read_source mesh problem generate seed ≡ Some (source_of mesh problem generate seed)
+unfolding read_source
+source_given (Some mesh) None None None in_sets rules = rw in_sets.mesh_in refl
+source_given (Some mesh) (Some problem) None None in_sets rules = rw (in_sets.mesh_in, in_sets.problem_in, rules.one_input) refl
+source_given None None (Some cells) seed in_sets rules = rw (in_sets.generate_in, number_given 0 18446744073709551615 0 seed in_sets.seed_in) refl
+source_given _ _ _ _ in_sets rules = cc
+
+-- what is written
+
+pub record OutputInSets (matrix rhs : Option (List ℕ)) : Type 0 where
+  pub matrix_in : passes is_name matrix ≡ true
+  pub rhs_in : passes is_name rhs ≡ true
+
+pub record OutputRead (matrix rhs : Option (List ℕ)) (wanted sums : Bool) (output : Output) : Type 0 where
+  pub in_sets : OutputInSets matrix rhs
+  pub rules : OutputRules matrix rhs wanted sums
+  pub output_is : output ≡ output_of matrix rhs wanted
+
+abbrev destination_or_standard : Option (List ℕ) → Destination
+destination_or_standard value = unwrap_or (option_map destination_of value) standard
+
+destination_read : (word : List ℕ) (destination : Destination) → read_destination word ≡ Some destination → (is_name word ≡ true) × (destination ≡ destination_of word)
+destination_read word destination read =
+    (elim (is_name word) as (λ b. is_name word ≡ b → option_map destination_of (cond b (Some word) None) ≡ Some destination → (is_name word ≡ true) × (destination ≡ destination_of word))
+    [ true ↦ λ is h. (is, (cc)) | false ↦ λ is h. cc ]) refl read
+
+destination_given : (word : List ℕ) → is_name word ≡ true → read_destination word ≡ Some (destination_of word)
+destination_given word is = rw is refl
+
+matrix_read : (matrix : Option (List ℕ)) (destination : Destination) → read_or standard read_destination matrix ≡ Some destination →
+    (passes is_name matrix ≡ true) × (destination ≡ destination_or_standard matrix)
+matrix_read None destination read = (refl, (cc))
+matrix_read (Some word) destination read = destination_read word destination read
+
+matrix_given : (matrix : Option (List ℕ)) → passes is_name matrix ≡ true → read_or standard read_destination matrix ≡ Some (destination_or_standard matrix)
+matrix_given None in_set = refl
+matrix_given (Some word) in_set = destination_given word in_set
+
+same_by : (name other : List ℕ) (here there same : Bool) → (same ≡ true → here ≡ there) → bytes_eq name other ≡ same →
+    is_same_name (cond here standard (named name)) (cond there standard (named other)) ≡ (same && not here)
+same_by name other true there same agree is = sym (and_false same)
+same_by name other false true true agree is = let e = agree refl in cc
+same_by name other false true false agree is = refl
+same_by name other false false true agree is = is
+same_by name other false false false agree is = is
+
+same_ends : (name other : List ℕ) → bytes_eq name other ≡ true → bytes_eq name (codes "-") ≡ bytes_eq other (codes "-")
+same_ends name other same = ap (λ word. bytes_eq word (codes "-")) ((bytes_eq-Decides name other).0 same)
+
+same_outputs : (matrix : Option (List ℕ)) (rhs : List ℕ) → is_same_name (destination_or_standard matrix) (destination_of rhs) ≡ (are_same matrix (Some rhs) && not (is_standard matrix))
+same_outputs None rhs = refl
+same_outputs (Some name) rhs = same_by name rhs (bytes_eq name (codes "-")) (bytes_eq rhs (codes "-")) (bytes_eq name rhs) (same_ends name rhs) refl
+
+are_same_none : (matrix : Option (List ℕ)) → are_same matrix None ≡ false
+are_same_none None = refl
+are_same_none (Some name) = refl
+
+pub output_read : (matrix rhs : Option (List ℕ)) (wanted sums : Bool) (output : Output) → read_output matrix rhs wanted sums ≡ Some output → OutputRead matrix rhs wanted sums output
+unfolding read_output
+output_read None None true sums output read =
+    let found = cond_some sums summary output read in
+    record {
+      in_sets = record { matrix_in = refl; rhs_in = refl };
+      rules = record { two_names = refl; needs_sums = rw found.0 refl; alone = refl };
+      output_is = sym found.1;
+    }
+output_read matrix None false sums output read =
+    let found = then_some (λ first. Some (both first None)) (read_or standard read_destination matrix) output read in
+    let first = matrix_read matrix found.0 found.1 in
+    record {
+      in_sets = record { matrix_in = first.0; rhs_in = refl };
+      rules = record { two_names = ap (λ same. same && not (is_standard matrix)) (are_same_none matrix); needs_sums = refl; alone = refl };
+      output_is = sym (injected (both found.0 None) output found.2) ∙ ap (λ first. both first None) first.1;
+    }
+output_read matrix (Some rhs) false true output read =
+    let found = then_some (λ first. read_destination rhs >>= (λ second. two_outputs first second)) (read_or standard read_destination matrix) output read in
+    let more = then_some (λ second. two_outputs found.0 second) (read_destination rhs) output found.2 in
+    let first = matrix_read matrix found.0 found.1 in
+    let second = destination_read rhs more.0 more.1 in
+    let apart = cond_else (is_same_name found.0 more.0) (both found.0 (Some more.0)) output more.2 in
+    record {
+      in_sets = record { matrix_in = first.0; rhs_in = second.0 };
+      rules = record {
+        two_names = sym (same_outputs matrix rhs) ∙ ap (λ first. is_same_name first (destination_of rhs)) (sym first.1) ∙ ap (λ second. is_same_name found.0 second) (sym second.1) ∙ apart.0;
+        needs_sums = refl;
+        alone = refl;
+      };
+      output_is = sym apart.1 ∙ ap (λ first. both first (Some more.0)) first.1 ∙ ap (λ second. both (destination_or_standard matrix) (Some second)) second.1;
+    }
+output_read _ _ _ _ output read = cc
+
+pub output_given : (matrix rhs : Option (List ℕ)) (wanted sums : Bool) → OutputInSets matrix rhs → OutputRules matrix rhs wanted sums →
+    read_output matrix rhs wanted sums ≡ Some (output_of matrix rhs wanted)
+unfolding read_output
+output_given None None true true in_sets rules = refl
+output_given matrix None false sums in_sets rules = ap (λ o. o >>= (λ first. Some (both first None))) (matrix_given matrix in_sets.matrix_in)
+output_given matrix (Some rhs) false true in_sets rules =
+    ap (λ o. o >>= (λ first. read_destination rhs >>= (λ second. two_outputs first second))) (matrix_given matrix in_sets.matrix_in)
+    ∙ ap (λ o. o >>= (λ second. two_outputs (destination_or_standard matrix) second)) (destination_given rhs in_sets.rhs_in)
+    ∙ ap (λ same. cond same None (Some (both (destination_or_standard matrix) (Some (destination_of rhs))))) (same_outputs matrix rhs ∙ rules.two_names)
+output_given _ _ _ _ in_sets rules = cc
+
+-- the whole
+
+pub record IsChosen (given : Given) (choice : Choice) : Type 0 where
+  pub in_sets : AreInSets given
+  pub rules : KeepsRules given
+  pub choice_is : choice ≡ chosen given
+
+pub reading_given : (given : Given) → AreInSets given → KeepsRules given → reading given ≡ Some (chosen given)
+unfolding reading is_in_set
+reading_given given in_sets rules =
+    let mode = named_given mode_of modes.Serial (given.value names.Mode) (in_sets names.Mode) in
+    let source = source_given (given.value names.Mesh) (given.value names.Problem) (given.value names.Generate) (given.value names.Seed)
+    (record { mesh_in = in_sets names.Mesh; problem_in = in_sets names.Problem; generate_in = in_sets names.Generate; seed_in = in_sets names.Seed }) rules.source in
+    let plan = plan_given given (record { workers = in_sets names.Workers; queue = in_sets names.Queue; chunk = in_sets names.Chunk; scratch = in_sets names.Scratch }) in
+    let digits = number_given 0 64 0 (given.value names.Digits) (in_sets names.Digits) in
+    let faces = named_given faces_of faces.None (given.value names.Faces) (in_sets names.Faces) in
+    let output = output_given (given.value names.Matrix) (given.value names.Rhs) given.summary (has_sums (mode_in given))
+    (record { matrix_in = in_sets names.Matrix; rhs_in = in_sets names.Rhs }) rules.output in
+    rw (mode, source, plan, digits, faces, output) refl
+
+abbrev put_together : Mode → Source → Plan → ℕ → Faces → Output → Choice
+put_together mode source plan digits faces output = record { mode = mode; source = source; plan = plan; digits = digits; faces = faces; output = output }
+
+pub record PartsInSets (given : Given) : Type 0 where
+  pub mode_in : passes (λ word. is_some (mode_of word)) (given.value names.Mode) ≡ true
+  pub source_in : SourceInSets (given.value names.Mesh) (given.value names.Problem) (given.value names.Generate) (given.value names.Seed)
+  pub plan_in : PlanInSets given
+  pub digits_in : passes (is_number_within 0 64) (given.value names.Digits) ≡ true
+  pub faces_in : passes (λ word. is_some (faces_of word)) (given.value names.Faces) ≡ true
+  pub output_in : OutputInSets (given.value names.Matrix) (given.value names.Rhs)
+
+in_all_sets : (given : Given) → PartsInSets given → AreInSets given
+unfolding is_in_set
+in_all_sets given parts names.Mode = parts.mode_in
+in_all_sets given parts names.Mesh = parts.source_in.mesh_in
+in_all_sets given parts names.Problem = parts.source_in.problem_in
+in_all_sets given parts names.Workers = parts.plan_in.workers
+in_all_sets given parts names.Queue = parts.plan_in.queue
+in_all_sets given parts names.Chunk = parts.plan_in.chunk
+in_all_sets given parts names.Scratch = parts.plan_in.scratch
+in_all_sets given parts names.Digits = parts.digits_in
+in_all_sets given parts names.Faces = parts.faces_in
+in_all_sets given parts names.Matrix = parts.output_in.matrix_in
+in_all_sets given parts names.Rhs = parts.output_in.rhs_in
+in_all_sets given parts names.Generate = parts.source_in.generate_in
+in_all_sets given parts names.Seed = parts.source_in.seed_in
+
+chosen_from : (given : Given) (choice : Choice) (m : Mode) (s : Source) (p : Plan) (d : ℕ) (f : Faces) (o : Output) →
+    read_or modes.Serial mode_of (given.value names.Mode) ≡ Some m →
+    read_source (given.value names.Mesh) (given.value names.Problem) (given.value names.Generate) (given.value names.Seed) ≡ Some s →
+    read_plan given ≡ Some p →
+    read_or 0 (number_within 0 64) (given.value names.Digits) ≡ Some d →
+    read_or faces.None faces_of (given.value names.Faces) ≡ Some f →
+    read_output (given.value names.Matrix) (given.value names.Rhs) given.summary (has_sums m) ≡ Some o →
+    put_together m s p d f o ≡ choice → IsChosen given choice
+chosen_from given choice m s p d f o m_read s_read p_read d_read f_read o_read is =
+    let mode = named_read mode_of modes.Serial m (given.value names.Mode) m_read in
+    let source = source_read (given.value names.Mesh) (given.value names.Problem) (given.value names.Generate) (given.value names.Seed) s s_read in
+    let plan = plan_read given p p_read in
+    let digits = number_read 0 64 0 d (given.value names.Digits) d_read in
+    let sides = named_read faces_of faces.None f (given.value names.Faces) f_read in
+    let output = output_read (given.value names.Matrix) (given.value names.Rhs) given.summary (has_sums m) o o_read in
+    record {
+      in_sets = in_all_sets given (record { mode_in = mode.0; source_in = source.in_sets; plan_in = plan.0; digits_in = digits.0; faces_in = sides.0; output_in = output.in_sets });
+      rules = record {
+        source = source.rules;
+        output = subst (λ m. OutputRules (given.value names.Matrix) (given.value names.Rhs) given.summary (has_sums m)) mode.1 output.rules;
+      };
+      choice_is = sym is ∙ ap (λ m. put_together m s p d f o) mode.1 ∙ ap (λ s. put_together (mode_in given) s p d f o) source.source_is
+          ∙ ap (λ p. put_together (mode_in given) (chosen given).source p d f o) plan.1
+          ∙ ap (λ d. put_together (mode_in given) (chosen given).source (plan_of given) d f o) digits.1
+          ∙ ap (λ f. put_together (mode_in given) (chosen given).source (plan_of given) (chosen given).digits f o) sides.1
+          ∙ ap (λ o. put_together (mode_in given) (chosen given).source (plan_of given) (chosen given).digits (chosen given).faces o) output.output_is;
+    }
+
+pub reading_tells : (given : Given) (choice : Choice) → reading given ≡ Some choice → IsChosen given choice
+unfolding reading
+reading_tells given choice read =
+    let behind_faces : Mode → Source → Plan → ℕ → Faces → Option Choice = λ m s p d f.
+    read_output (given.value names.Matrix) (given.value names.Rhs) given.summary (has_sums m) >>= (λ o. Some (put_together m s p d f o)) in
+    let behind_digits : Mode → Source → Plan → ℕ → Option Choice = λ m s p d. read_or faces.None faces_of (given.value names.Faces) >>= (λ f. behind_faces m s p d f) in
+    let behind_plan : Mode → Source → Plan → Option Choice = λ m s p. read_or 0 (number_within 0 64) (given.value names.Digits) >>= (λ d. behind_digits m s p d) in
+    let behind_source : Mode → Source → Option Choice = λ m s. read_plan given >>= (λ p. behind_plan m s p) in
+    let behind_mode : Mode → Option Choice = λ m.
+    read_source (given.value names.Mesh) (given.value names.Problem) (given.value names.Generate) (given.value names.Seed) >>= (λ s. behind_source m s) in
+    let m = then_some behind_mode (read_or modes.Serial mode_of (given.value names.Mode)) choice read in
+    let s = then_some (behind_source m.0) (read_source (given.value names.Mesh) (given.value names.Problem) (given.value names.Generate) (given.value names.Seed)) choice m.2 in
+    let p = then_some (behind_plan m.0 s.0) (read_plan given) choice s.2 in
+    let d = then_some (behind_digits m.0 s.0 p.0) (read_or 0 (number_within 0 64) (given.value names.Digits)) choice p.2 in
+    let f = then_some (behind_faces m.0 s.0 p.0 d.0) (read_or faces.None faces_of (given.value names.Faces)) choice d.2 in
+    let o = then_some (λ o. Some (put_together m.0 s.0 p.0 d.0 f.0 o)) (read_output (given.value names.Matrix) (given.value names.Rhs) given.summary (has_sums m.0)) choice f.2 in
+    chosen_from given choice m.0 s.0 p.0 d.0 f.0 o.0 m.1 s.1 p.1 d.1 f.1 o.1 (injected (put_together m.0 s.0 p.0 d.0 f.0 o.0) choice o.2)

@@ -1,0 +1,76 @@
+-- What taking a setting does.
+use Rattle.std.proofs.Common.{◌≡◌, ◌∙◌, ◌++◌, ap, sym, ℕ, List, [], ◌∷◌, length, Bool, true, false, cond, refl, arith, append-nil, get_or, take, drop, map, ◌≤◌, ◌-◌, suc}
+use Rattle.std.proofs.Math.Seq.{take-length}
+use Rattle.std.specs.Prelude.{Some, None, IsSome}
+use Rattle.std.specs.declared.option.Option.{Option}
+use Rattle.std.specs.Option.{option_to_list, option_and_then, option_map}
+use Rattle.run_words.specs.declared.name.Name.{Name}
+use Rattle.run_words.specs.Names.{same_name}
+use Rattle.run_words.specs.Settings.{Setting, Given, apart, joined, summary}
+use Rattle.run_words.specs.Openings.{whole, named, begins, seen_opening}
+use Rattle.run_words.specs.declared.opening.Opening as rust
+use Rattle.run_words.specs.Held.{Sets, Adds, Takes, CannotTake, stands, valued, alone, first_with}
+use Rattle.run_words.proofs.Places.{names_are_one, same_name-refl}
+
+-- the value of an option, with what a setting of another or the same one gives
+pub value_added : (old new : Given) (name other : Name) (value : List ℕ) → Sets old name value new → (same : Bool) → same_name other name ≡ same →
+    option_to_list (cond same (Some value) (old.value other)) ≡ option_to_list (old.value other) ++ option_to_list (cond same (Some value) None)
+value_added old new name other value sets true is = rw (ap old.value (names_are_one other name is) ∙ sets.free) refl
+value_added old new name other value sets false is = sym (append-nil (option_to_list (old.value other)))
+
+pub adds_joined : (old new : Given) (name : Name) (value : List ℕ) → Sets old name value new → Adds old (joined name value) new
+adds_joined old new name value sets = record {
+  values_are = λ other. ap option_to_list (sets.values_are other) ∙ value_added old new name other value sets (same_name other name) refl;
+  summary_is = rw sets.summary_stays (omega arith);
+}
+
+pub adds_apart : (old new : Given) (name : Name) (value : List ℕ) → Sets old name value new → Adds old (apart name value) new
+adds_apart old new name value sets = record {
+  values_are = λ other. ap option_to_list (sets.values_are other) ∙ value_added old new name other value sets (same_name other name) refl;
+  summary_is = rw sets.summary_stays (omega arith);
+}
+
+pub adds_summary : (old new : Given) → old.summary ≡ false → new ≡ record old { summary = true } → Adds old summary new
+adds_summary old new free is = record {
+  values_are = λ other. rw is (sym (append-nil (option_to_list (old.value other))));
+  summary_is = rw (is, free) refl;
+}
+
+pub takes_whole : (old new : Given) (word : List ℕ) (behind : List (List ℕ)) (setting : Setting) → begins word ≡ Some (whole setting) → Adds old setting new → Takes old (word ∷ behind) new behind
+takes_whole old new word behind setting begun adds = record {
+  setting = setting;
+  first_is = ap (option_and_then (λ b. first_with b behind)) begun;
+  adds = adds;
+}
+
+pub takes_apart : (old new : Given) (word value : List ℕ) (behind : List (List ℕ)) (name : Name) → begins word ≡ Some (named name) → Sets old name value new → Takes old (word ∷ value ∷ behind) new behind
+takes_apart old new word value behind name begun sets = record {
+  setting = apart name value;
+  first_is = ap (option_and_then (λ b. first_with b (value ∷ behind))) begun;
+  adds = adds_apart old new name value sets;
+}
+
+pub gives_itself : (same : Bool) (value : List ℕ) → same ≡ true → IsSome (cond same (Some value) None)
+gives_itself same value is = rw is refl
+
+pub cannot_take_joined : (held : Given) (word value : List ℕ) (behind : List (List ℕ)) (name : Name) → begins word ≡ Some (whole (joined name value)) → IsSome (held.value name) → CannotTake held (word ∷ behind)
+cannot_take_joined held word value behind name begun stood =
+    stands (joined name value) behind (ap (option_and_then (λ b. first_with b behind)) begun) (valued name stood (gives_itself (same_name name name) value (same_name-refl name)))
+
+pub cannot_take_apart : (held : Given) (word value : List ℕ) (behind : List (List ℕ)) (name : Name) → begins word ≡ Some (named name) → IsSome (held.value name) → CannotTake held (word ∷ value ∷ behind)
+cannot_take_apart held word value behind name begun stood =
+    stands (apart name value) behind (ap (option_and_then (λ b. first_with b (value ∷ behind))) begun) (valued name stood (gives_itself (same_name name name) value (same_name-refl name)))
+
+pub cannot_take_summary : (held : Given) (word : List ℕ) (behind : List (List ℕ)) → begins word ≡ Some (whole summary) → held.summary ≡ true → CannotTake held (word ∷ behind)
+cannot_take_summary held word behind begun stood =
+    stands summary behind (ap (option_and_then (λ b. first_with b behind)) begun) (alone stood refl)
+
+-- a list that isn't empty, by its first element
+pub map-front : {A B : Type 0} (f : A → B) (list : List A) (x : A) → 1 ≤ length list → x ≡ get_or list 0 x → map f list ≡ f x ∷ map f (take (length list - 1) (drop 1 list))
+map-front f [] x long is = absurd (omega (arith, long))
+map-front f (y ∷ ys) x long is =
+    let e : suc (length ys) - 1 ≡ length ys = omega arith in
+    ap (λ z. f z ∷ map f ys) (sym is) ∙ ap (λ list. f x ∷ map f list) (sym (ap (λ n. take n ys) e ∙ take-length ys))
+
+pub opened : (found : Option rust.Opening) (x : rust.Opening) (word : List ℕ) → option_map seen_opening found ≡ begins word → found ≡ Some x → begins word ≡ Some (seen_opening x)
+opened found x word seen is = sym seen ∙ ap (option_map seen_opening) is

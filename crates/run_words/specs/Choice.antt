@@ -1,0 +1,116 @@
+-- What the words ask for.
+use Rattle.std.specs.Prelude.{ℕ, ◌*◌, List, [], Bool, true, false, codes, unwrap_or, if◌then◌else◌, Some, None}
+use Rattle.std.specs.declared.option.Option.{Option}
+use Rattle.std.specs.Option.{option_map, option_copied}
+use Rattle.std.specs.Str.{bytes_eq}
+use Rattle.fem_fixed.specs.Numbers.{digits_value}
+use Rattle.run_words.specs.declared.name.Name.TheVariants as names
+use Rattle.run_words.specs.declared.options.Mode.{Mode}
+use Rattle.run_words.specs.declared.options.Mode.TheVariants as modes
+use Rattle.run_words.specs.declared.options.Faces.{Faces}
+use Rattle.run_words.specs.declared.options.Faces.TheVariants as faces
+use Rattle.run_words.specs.declared.options.Plan.{Plan}
+use Rattle.run_words.specs.declared.options.Source as rust_source
+use Rattle.run_words.specs.declared.options.Source.TheVariants as sources
+use Rattle.run_words.specs.declared.options.Destination as rust_destination
+use Rattle.run_words.specs.declared.options.Destination.TheVariants as destinations
+use Rattle.run_words.specs.declared.options.Output as rust_output
+use Rattle.run_words.specs.declared.options.Output.TheVariants as outputs
+use Rattle.run_words.specs.declared.options.Options as rust_options
+use Rattle.run_words.specs.Settings.{Given}
+use Rattle.run_words.specs.Values.{mode_of, faces_of}
+
+-- what is assembled: the mesh under a name with the problem under another, if any, or what is generated for
+-- n cells in a row and a seed
+pub data Source : Type 0 where
+  texts : List ℕ → Option (List ℕ) → Source
+  generated : ℕ → ℕ → Source
+
+pub data Destination : Type 0 where
+  standard : Destination
+  named : List ℕ → Destination
+
+-- what is written: the summary, or the matrix, pattern or colours, and the right side where it has a destination
+pub data Output : Type 0 where
+  summary : Output
+  both : Destination → Option Destination → Output
+
+pub record Choice : Type 0 where
+  pub mode : Mode
+  pub source : Source
+  pub plan : Plan
+  pub digits : ℕ
+  pub faces : Faces
+  pub output : Output
+
+-- the same, as the program has it
+
+abbrev pub seen_source : rust_source.Source → Source
+seen_source (sources.Texts mesh problem) = texts mesh.now (option_copied problem)
+seen_source (sources.Generated n seed) = generated n seed
+
+abbrev pub seen_destination : rust_destination.Destination → Destination
+seen_destination destinations.Standard = standard
+seen_destination (destinations.Named name) = named name.now
+
+abbrev pub seen_output : rust_output.Output → Output
+seen_output outputs.Summary = summary
+seen_output (outputs.Texts matrix rhs) = both (seen_destination matrix) (option_map seen_destination rhs)
+
+abbrev pub seen : rust_options.Options → Choice
+seen options = record {
+  mode = options.mode;
+  source = seen_source options.source;
+  plan = options.plan;
+  digits = options.digits;
+  faces = options.faces;
+  output = seen_output options.output;
+}
+
+-- the number of a value, or else the default
+abbrev pub number_or : ℕ → Option (List ℕ) → ℕ
+number_or default None = default
+number_or default (Some word) = digits_value word
+
+-- what a value names, or else the default
+abbrev pub named_or : {X : Type 0} → X → (List ℕ → Option X) → Option (List ℕ) → X
+named_or default find None = default
+named_or default find (Some word) = unwrap_or (find word) default
+
+-- there are twice as many places in the queue as workers, and as many scratch objects
+abbrev pub plan_of : Given → Plan
+plan_of given =
+    let workers = number_or 4 (given.value names.Workers) in
+    record {
+      workers = workers;
+      queue = number_or (2 * workers) (given.value names.Queue);
+      chunk = number_or 8 (given.value names.Chunk);
+      scratch = number_or workers (given.value names.Scratch);
+    }
+
+-- by the values of `--mesh`, `--problem`, `--generate` and `--seed`
+abbrev pub source_of : Option (List ℕ) → Option (List ℕ) → Option (List ℕ) → Option (List ℕ) → Source
+source_of mesh problem None seed = texts (unwrap_or mesh []) problem
+source_of mesh problem (Some cells) seed = generated (digits_value cells) (number_or 0 seed)
+
+abbrev pub destination_of : List ℕ → Destination
+destination_of name = if bytes_eq name (codes "-") then standard else named name
+
+-- by the values of `--matrix` and `--rhs`, and whether `--summary` stands
+abbrev pub output_of : Option (List ℕ) → Option (List ℕ) → Bool → Output
+output_of matrix rhs true = summary
+output_of matrix rhs false = both (unwrap_or (option_map destination_of matrix) standard) (option_map destination_of rhs)
+
+abbrev pub mode_in : Given → Mode
+mode_in given = named_or modes.Serial mode_of (given.value names.Mode)
+
+-- what is asked for, with the defaults of the options that do not stand
+abbrev pub chosen : Given → Choice
+chosen given = record {
+  mode = mode_in given;
+  source = source_of (given.value names.Mesh) (given.value names.Problem) (given.value names.Generate) (given.value names.Seed);
+  plan = plan_of given;
+  digits = number_or 0 (given.value names.Digits);
+  faces = named_or faces.None faces_of (given.value names.Faces);
+  output = output_of (given.value names.Matrix) (given.value names.Rhs) given.summary;
+}

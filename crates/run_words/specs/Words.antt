@@ -1,0 +1,82 @@
+-- The words of the command line.
+use Rattle.std.specs.Prelude.{◌≡◌, ℕ, List, ◌∷◌, ◌++◌, Bool, true, false, ◌&&◌, ◌||◌, not, is_some, codes, ◌⊎◌, [], Some, None}
+use Rattle.std.specs.declared.option.Option.{Option}
+use Rattle.std.specs.List.{flat_map}
+use Rattle.std.specs.Str.{bytes_eq}
+use Rattle.run_words.specs.declared.name.Name.{Name}
+use Rattle.run_words.specs.declared.name.Name.TheVariants as names
+use Rattle.run_words.specs.declared.options.Mode.{Mode}
+use Rattle.run_words.specs.declared.options.Mode.TheVariants as modes
+use Rattle.run_words.specs.Settings.{Setting, words_of, StandsOnce, Given, given_by}
+use Rattle.run_words.specs.Values.{is_in_set}
+use Rattle.run_words.specs.Choice.{Choice, mode_in, chosen}
+
+-- an option doesn't stand, or its value is in its set
+abbrev pub passes : (List ℕ → Bool) → Option (List ℕ) → Bool
+passes test None = true
+passes test (Some value) = test value
+
+abbrev pub AreInSets : Given → Type 0
+AreInSets given = (name : Name) → passes (is_in_set name) (given.value name) ≡ true
+
+-- the name is `-`
+abbrev pub is_standard : Option (List ℕ) → Bool
+is_standard None = false
+is_standard (Some name) = bytes_eq name (codes "-")
+
+-- the same name stands twice
+abbrev pub are_same : Option (List ℕ) → Option (List ℕ) → Bool
+are_same (Some name) (Some other) = bytes_eq name other
+are_same _ _ = false
+
+-- the modes that have sums, and so a right side and a summary
+abbrev pub has_sums : Mode → Bool
+has_sums modes.Serial = true
+has_sums modes.Ordered = true
+has_sums modes.Colored = true
+has_sums modes.Pattern = false
+has_sums modes.Colors = false
+
+-- the rules between `--mesh`, `--problem`, `--generate` and `--seed`
+pub record SourceRules (mesh problem generate seed : Option (List ℕ)) : Type 0 where
+  -- one of the mesh and the generator stands, and not both
+  pub one_source : is_some mesh ≡ not (is_some generate)
+  pub no_problem : (is_some problem && is_some generate) ≡ false
+  pub no_seed : (is_some seed && not (is_some generate)) ≡ false
+  -- standard input is read once
+  pub one_input : (is_standard mesh && is_standard problem) ≡ false
+
+-- the rules between `--matrix`, `--rhs`, `--summary` and the mode
+pub record OutputRules (matrix rhs : Option (List ℕ)) (summary sums : Bool) : Type 0 where
+  -- no name is written twice
+  pub two_names : (are_same matrix rhs && not (is_standard matrix)) ≡ false
+  pub needs_sums : ((is_some rhs || summary) && not sums) ≡ false
+  pub alone : (summary && (is_some matrix || is_some rhs)) ≡ false
+
+pub record KeepsRules (given : Given) : Type 0 where
+  pub source : SourceRules (given.value names.Mesh) (given.value names.Problem) (given.value names.Generate) (given.value names.Seed)
+  pub output : OutputRules (given.value names.Matrix) (given.value names.Rhs) given.summary (has_sums (mode_in given))
+
+-- the words ask for this: they are settings, no option stands twice, each value is in its set, the rules between
+-- options are kept, and the choice is what the settings give
+pub record AskFor (words : List (List ℕ)) (choice : Choice) : Type 0 where
+  pub settings : List Setting
+  pub words_are : words ≡ flat_map words_of settings
+  pub once : StandsOnce settings
+  pub in_sets : AreInSets (given_by settings)
+  pub rules : KeepsRules (given_by settings)
+  pub choice_is : choice ≡ chosen (given_by settings)
+
+-- the words ask for nothing
+abbrev pub AskForNothing : List (List ℕ) → Type 0
+AskForNothing words = (choice : Choice) → AskFor words choice → ⊥
+
+-- these words stand in a row among the words
+pub record StandInARow (row words : List (List ℕ)) : Type 0 where
+  pub before : List (List ℕ)
+  pub behind : List (List ℕ)
+  pub words_are : words ≡ before ++ (row ++ behind)
+
+-- the words name the mode `ordered`, in two words in a row or in one
+abbrev pub NameOrdered : List (List ℕ) → Type 0
+NameOrdered words = StandInARow (codes "--mode" ∷ codes "ordered" ∷ []) words ⊎ StandInARow (codes "--mode=ordered" ∷ []) words

@@ -1,0 +1,203 @@
+ghost use Rattle.std.specs.Prelude.{◌≡◌, length};
+ghost use Rattle.std.specs.Option.{option_map, option_copied};
+ghost use Rattle.run_words.specs.Held.{seen_settings};
+ghost use Rattle.run_words.specs.Words.{has_sums};
+ghost use Rattle.run_words.specs.Values.{mode_of, faces_of};
+ghost use Rattle.run_words.specs.Choice.{standard, seen, seen_source, seen_destination, seen_output, destination_of};
+ghost use Rattle.run_words.specs.Reading.{reading, read_or, read_plan, read_source, read_destination, read_output, two_texts, two_outputs, is_same_name};
+
+use crate::name::Name;
+use crate::settings::Settings;
+use crate::values::{faces_of, mode_of, name_of, number_or, number_within};
+use crate::{Destination, Faces, Mode, Options, Output, Plan, Source};
+
+/// What the options that stand ask for, where each value is in its set and the rules between options are kept.
+#[tactic(auto, unfolding(crate::specs::Reading::reading))]
+pub(crate) fn options_of<'a>(settings: &Settings<'a>) -> Option<Options<'a>>
+    ensures { option_map seen result ≡ reading (seen_settings settings.now) }
+{
+    let mode = mode_or_serial(settings.value(Name::Mode))?;
+    let source = source_of(
+        settings.value(Name::Mesh),
+        settings.value(Name::Problem),
+        settings.value(Name::Generate),
+        settings.value(Name::Seed),
+    )?;
+    let plan = plan_of(settings)?;
+    let digits = number_or(0, 0, 64, settings.value(Name::Digits))?;
+    let faces = faces_or_none(settings.value(Name::Faces))?;
+    let output = output_of(
+        settings.value(Name::Matrix),
+        settings.value(Name::Rhs),
+        settings.wants_summary(),
+        has_sums(mode),
+    )?;
+    Some(Options {
+        mode,
+        source,
+        plan,
+        digits,
+        faces,
+        output,
+    })
+}
+
+fn mode_or_serial(value: Option<&str>) -> Option<Mode>
+    ensures { result ≡ read_or Mode.Serial mode_of (option_copied value.entry) }
+{
+    match value {
+        Some(word) => mode_of(word),
+        None => Some(Mode::Serial),
+    }
+}
+
+fn faces_or_none(value: Option<&str>) -> Option<Faces>
+    ensures { result ≡ read_or Faces.None faces_of (option_copied value.entry) }
+{
+    match value {
+        Some(word) => faces_of(word),
+        None => Some(Faces::None),
+    }
+}
+
+#[tactic(auto, unfolding(crate::specs::Reading::read_plan))]
+fn plan_of(settings: &Settings) -> Option<Plan>
+    ensures { result ≡ read_plan (seen_settings settings.now) }
+{
+    let workers = number_or(4, 1, 64, settings.value(Name::Workers))?;
+    let queue = number_or(2 * workers, 1, 256, settings.value(Name::Queue))?;
+    let chunk = number_or(8, 1, 64, settings.value(Name::Chunk))?;
+    let scratch = number_or(workers, 1, 64, settings.value(Name::Scratch))?;
+    Some(Plan {
+        workers,
+        queue,
+        chunk,
+        scratch,
+    })
+}
+
+#[tactic(auto, unfolding(crate::specs::Reading::read_source))]
+fn source_of<'a>(
+    mesh: Option<&'a str>,
+    problem: Option<&'a str>,
+    generate: Option<&str>,
+    seed: Option<&str>,
+) -> Option<Source<'a>>
+    ensures { option_map seen_source result ≡ read_source (option_copied mesh.entry) (option_copied problem.entry) (option_copied generate.entry) (option_copied seed.entry) }
+{
+    match (mesh, problem, generate, seed) {
+        (Some(mesh), None, None, None) => {
+            let mesh = name_of(mesh)?;
+            Some(Source::Texts {
+                mesh,
+                problem: None,
+            })
+        }
+        (Some(mesh), Some(problem), None, None) => {
+            let mesh = name_of(mesh)?;
+            let problem = name_of(problem)?;
+            two_texts(mesh, problem)
+        }
+        (None, None, Some(cells), seed) => {
+            let n = number_within(cells, 1, 512)?;
+            let seed = match seed {
+                Some(word) => number_within(word, 0, u64::MAX)?,
+                None => 0,
+            };
+            Some(Source::Generated { n: n as u32, seed })
+        }
+        _ => None,
+    }
+}
+
+// A mesh and a problem, where not both are standard input.
+fn two_texts<'a>(mesh: &'a str, problem: &'a str) -> Option<Source<'a>>
+    ensures { option_map seen_source result ≡ two_texts mesh.now problem.now }
+{
+    if mesh == "-" && problem == "-" {
+        return None;
+    }
+    Some(Source::Texts {
+        mesh,
+        problem: Some(problem),
+    })
+}
+
+#[tactic(auto, unfolding(crate::specs::Reading::read_output))]
+fn output_of<'a>(
+    matrix: Option<&'a str>,
+    rhs: Option<&'a str>,
+    wants_summary: bool,
+    has_sums: bool,
+) -> Option<Output<'a>>
+    ensures { option_map seen_output result ≡ read_output (option_copied matrix.entry) (option_copied rhs.entry) wants_summary has_sums }
+{
+    match (matrix, rhs, wants_summary) {
+        (None, None, true) if has_sums => Some(Output::Summary),
+        (matrix, None, false) => {
+            let matrix = destination_or_standard(matrix)?;
+            Some(Output::Texts {
+                matrix,
+                right_side: None,
+            })
+        }
+        (matrix, Some(rhs), false) if has_sums => {
+            let matrix = destination_or_standard(matrix)?;
+            let rhs = destination_of(rhs)?;
+            two_outputs(matrix, rhs)
+        }
+        _ => None,
+    }
+}
+
+// A matrix and a right side, where they don't have one name.
+fn two_outputs<'a>(matrix: Destination<'a>, rhs: Destination<'a>) -> Option<Output<'a>>
+    ensures { option_map seen_output result ≡ two_outputs (seen_destination matrix.entry) (seen_destination rhs.entry) }
+{
+    if is_same_name(matrix, rhs) {
+        return None;
+    }
+    Some(Output::Texts {
+        matrix,
+        right_side: Some(rhs),
+    })
+}
+
+fn is_same_name(matrix: Destination, rhs: Destination) -> bool
+    ensures { result ≡ is_same_name (seen_destination matrix.entry) (seen_destination rhs.entry) }
+{
+    match (matrix, rhs) {
+        (Destination::Named(name), Destination::Named(other)) => name == other,
+        _ => false,
+    }
+}
+
+fn destination_or_standard(value: Option<&str>) -> Option<Destination<'_>>
+    ensures { option_map seen_destination result ≡ read_or standard read_destination (option_copied value.entry) }
+{
+    match value {
+        Some(word) => destination_of(word),
+        None => Some(Destination::Standard),
+    }
+}
+
+fn destination_of(word: &str) -> Option<Destination<'_>>
+    ensures { option_map seen_destination result ≡ read_destination word.now }
+{
+    let name = name_of(word)?;
+    if name == "-" {
+        Some(Destination::Standard)
+    } else {
+        Some(Destination::Named(name))
+    }
+}
+
+// The modes with sums have a right side and a summary.
+fn has_sums(mode: Mode) -> bool
+    ensures { result ≡ has_sums mode }
+{
+    match mode {
+        Mode::Serial | Mode::Ordered | Mode::Colored => true,
+        Mode::Pattern | Mode::Colors => false,
+    }
+}

@@ -1,0 +1,17 @@
+//! The words behind the program's name: what they ask of a run.
+#![tactic(auto)]
+
+mod choice;
+mod name;
+mod opening;
+mod options;
+mod reader;
+mod settings;
+#[cfg(test)]
+mod tests;
+mod values;
+mod wait;
+
+pub use options::{Destination, Faces, Mode, Options, Output, Plan, Source};
+pub use reader::{one_reading, read_words};
+pub use wait::{ordered_is_named, wants_wait};

@@ -1,0 +1,81 @@
+/// What a run makes.
+#[derive(Clone, Copy, Debug, PartialEq, Eq)]
+pub enum Mode {
+    /// The sums, cell by cell.
+    Serial,
+    /// The same by threads that keep the order of the cells.
+    Ordered,
+    /// The sums by colours.
+    Colored,
+    /// The pattern of the matrix.
+    Pattern,
+    /// The colours of the cells.
+    Colors,
+}
+
+/// From which sides the interior faces are visited.
+#[derive(Clone, Copy, Debug, PartialEq, Eq)]
+pub enum Faces {
+    /// From none.
+    None,
+    /// From one.
+    Once,
+    /// From each of the two.
+    Both,
+}
+
+/// What is assembled.
+#[derive(Clone, Copy, Debug, PartialEq, Eq)]
+pub enum Source<'a> {
+    /// The mesh text under a name, with the problem text under another, if any. `-` is standard input.
+    Texts {
+        mesh: &'a str,
+        problem: Option<&'a str>,
+    },
+    /// The texts that are generated for n cells in a row and a seed.
+    Generated {
+        n: u32,
+        seed: u64,
+    },
+}
+
+/// How many threads, places in a queue, cells in a piece and scratch objects a parallel mode uses.
+#[derive(Clone, Copy, Debug, PartialEq, Eq)]
+pub struct Plan {
+    pub workers: u32,
+    pub queue: u32,
+    pub chunk: u32,
+    pub scratch: u32,
+}
+
+/// Where a text is written.
+#[derive(Clone, Copy, Debug, PartialEq, Eq)]
+pub enum Destination<'a> {
+    /// Standard output.
+    Standard,
+    /// Under a name.
+    Named(&'a str),
+}
+
+/// What is written.
+#[derive(Clone, Copy, Debug, PartialEq, Eq)]
+pub enum Output<'a> {
+    /// The summary, to standard output.
+    Summary,
+    /// The matrix, pattern or colours, and the right side where it has a destination.
+    Texts {
+        matrix: Destination<'a>,
+        right_side: Option<Destination<'a>>,
+    },
+}
+
+/// What the words ask for. The kept digits are those behind the binary point of a sum.
+#[derive(Clone, Copy, Debug, PartialEq, Eq)]
+pub struct Options<'a> {
+    pub mode: Mode,
+    pub source: Source<'a>,
+    pub plan: Plan,
+    pub digits: u32,
+    pub faces: Faces,
+    pub output: Output<'a>,
+}
