@@ -1,0 +1,129 @@
+ghost use Rattle.std.specs.Prelude.{◌≡◌};
+ghost use Rattle.diagnostics.specs.Lines as lines;
+
+/// The kinds of fault of a mesh text that aren't limits.
+#[derive(Clone, Copy, Debug, PartialEq, Eq)]
+pub enum MeshTextKind {
+    Header,
+    NodeLine,
+    CellLine,
+    Number,
+    DuplicateId,
+    UnknownNode,
+    UnsupportedType,
+    TooFew,
+}
+
+impl MeshTextKind {
+    /// Its word in a line.
+    pub(crate) fn word(self) -> &'static [u8]
+        ensures { result.now ≡ lines.mesh_text_word self }
+    {
+        match self {
+            MeshTextKind::Header => b"Header",
+            MeshTextKind::NodeLine => b"NodeLine",
+            MeshTextKind::CellLine => b"CellLine",
+            MeshTextKind::Number => b"Number",
+            MeshTextKind::DuplicateId => b"DuplicateId",
+            MeshTextKind::UnknownNode => b"UnknownNode",
+            MeshTextKind::UnsupportedType => b"UnsupportedType",
+            MeshTextKind::TooFew => b"TooFew",
+        }
+    }
+}
+
+/// The kinds of fault of a problem text that aren't limits.
+#[derive(Clone, Copy, Debug, PartialEq, Eq)]
+pub enum ProblemTextKind {
+    Word,
+    Number,
+    Repeated,
+}
+
+impl ProblemTextKind {
+    /// Its word in a line.
+    pub(crate) fn word(self) -> &'static [u8]
+        ensures { result.now ≡ lines.problem_text_word self }
+    {
+        match self {
+            ProblemTextKind::Word => b"Word",
+            ProblemTextKind::Number => b"Number",
+            ProblemTextKind::Repeated => b"Repeated",
+        }
+    }
+}
+
+/// The kinds of fault of a mesh: of the coarse mesh, and of a step of its refinement.
+#[derive(Clone, Copy, Debug, PartialEq, Eq)]
+pub enum MeshKind {
+    RepeatedCorner,
+    ZeroArea,
+    NotConvex,
+    EdgeShared,
+    LineOffEdge,
+    BoundaryTwice,
+    NoSuchCell,
+    Flat,
+}
+
+impl MeshKind {
+    /// Its word in a line.
+    pub(crate) fn word(self) -> &'static [u8]
+        ensures { result.now ≡ lines.mesh_word self }
+    {
+        match self {
+            MeshKind::RepeatedCorner => b"RepeatedCorner",
+            MeshKind::ZeroArea => b"ZeroArea",
+            MeshKind::NotConvex => b"NotConvex",
+            MeshKind::EdgeShared => b"EdgeShared",
+            MeshKind::LineOffEdge => b"LineOffEdge",
+            MeshKind::BoundaryTwice => b"BoundaryTwice",
+            MeshKind::NoSuchCell => b"NoSuchCell",
+            MeshKind::Flat => b"Flat",
+        }
+    }
+}
+
+/// The kinds of fault of constraint lines.
+#[derive(Clone, Copy, Debug, PartialEq, Eq)]
+pub enum ConstraintKind {
+    UnknownNode,
+    Twice,
+    Cycle,
+    Weight,
+    Terms,
+}
+
+impl ConstraintKind {
+    /// Its word in a line.
+    pub(crate) fn word(self) -> &'static [u8]
+        ensures { result.now ≡ lines.constraint_word self }
+    {
+        match self {
+            ConstraintKind::UnknownNode => b"UnknownNode",
+            ConstraintKind::Twice => b"Twice",
+            ConstraintKind::Cycle => b"Cycle",
+            ConstraintKind::Weight => b"Weight",
+            ConstraintKind::Terms => b"Terms",
+        }
+    }
+}
+
+/// What is too large or too many.
+#[derive(Clone, Copy, Debug, PartialEq, Eq)]
+pub enum LimitKind {
+    /// The mesh text is above 268,435,456 bytes.
+    MeshSize,
+    /// The mesh text counts too many, on this line.
+    MeshCount(u32),
+    /// The problem text is above 268,435,456 bytes.
+    ProblemSize,
+    /// The problem text has too many lines or terms, on this line.
+    ProblemCount(u32),
+    /// A cell would be refined more than twelve times.
+    Level,
+    /// There would be more than 1,048,576 active cells.
+    Cells,
+    /// The pattern has more than 33,554,432 entries.
+    Entries,
+}

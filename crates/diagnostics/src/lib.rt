@@ -1,0 +1,15 @@
+//! How a run of the program ends: its status, and its one line on the diagnostics.
+#![tactic(auto)]
+
+mod ending;
+mod kinds;
+mod layers;
+mod line;
+mod refusal;
+
+pub use ending::{Ending, Output, Role};
+pub use kinds::{ConstraintKind, LimitKind, MeshKind, MeshTextKind, ProblemTextKind};
+pub use refusal::Refusal;
+
+#[cfg(test)]
+mod tests;
