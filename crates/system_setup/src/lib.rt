@@ -1,0 +1,10 @@
+//! From a mesh and a problem to the set-up of their system, or why there is none: the coarse mesh, its steps of
+//! refinement, the degrees of freedom, the constraint lines and the pattern, in this order.
+#![tactic(auto)]
+
+mod steps;
+
+pub use steps::set_up;
+
+#[cfg(test)]
+mod tests;

@@ -1,0 +1,128 @@
+ghost use Rattle.std.specs.Prelude.{◌≡◌, ◌≤◌, ◌^◌, length, Ok, IfOk, IfErr};
+ghost use Rattle.dof_numbers.specs.Dofs.{IsNumberingOf};
+ghost use Rattle.ucd_read.specs.Bounds.{IsBounded};
+ghost use Rattle.diagnostics.specs.Stages.{EndsIn};
+ghost use Rattle.system_setup.specs.SetUp.{CoarseOf, RefinedFrom, LinesFor, PatternedFor, IsSetUp};
+
+use affine_constraints::Closed;
+use constrained_mesh::{constraint_lines, refine_by_steps};
+use diagnostics::Ending;
+use dof_numbers::Dofs;
+use fem_fixed::MeshParts;
+use hanging_refine::Forest;
+use mesh_loop::Setup;
+use mesh_visits::{Flags, Interior};
+use node_ids::NodeIds;
+use problem_read::Problem;
+use quad_mesh::QuadMesh;
+use std::alloc::Global;
+use std::thread::Threads;
+
+/// The set-up of the system of a mesh and a problem: each cell and each face at the boundary is visited, and the
+/// parts of interior faces as asked.
+///
+/// # Errors
+///
+/// The first refusal in the order of work: a fault of the coarse mesh, of a step of refinement, or of the
+/// constraints, or that the pattern has more than 33,554,432 entries.
+pub fn set_up(
+    rt: &(impl Threads + Sync),
+    alloc: Global,
+    parts: MeshParts,
+    problem: Problem,
+    interior: Interior,
+) -> Result<Setup, Ending>
+    requires bounded { IsBounded parts }
+    requires ids { length parts.ids ≤ 2 ^ 20 }
+    ensures ok { IfOk result (λ setup. IsSetUp interior parts problem (Ok setup)) }
+    ensures refused { IfErr result (EndsIn (IsSetUp interior parts problem)) }
+{
+    let (ids, mesh) = match coarse_mesh(alloc, parts) {
+        Ok(made) => made,
+        Err(ending) => return Err(ending),
+    };
+    let forest = match refined(alloc, mesh, &problem) {
+        Ok(forest) => forest,
+        Err(ending) => return Err(ending),
+    };
+    let dofs = Dofs::number(alloc, &forest)?;
+    let closed = match closed_lines(alloc, &forest, &dofs, &ids, &problem) {
+        Ok(closed) => closed,
+        Err(ending) => return Err(ending),
+    };
+    with_pattern(rt, alloc, forest, dofs, closed, problem, interior)
+}
+
+/// The node ids and the coarse mesh.
+fn coarse_mesh(alloc: Global, parts: MeshParts) -> Result<(Vec<u32>, QuadMesh), Ending>
+    requires { IsBounded parts }
+    ensures ids { IfOk result (λ made. made.0.items ≡ parts.ids) }
+    ensures ok { IfOk result (λ made. CoarseOf parts.points parts.quads parts.lines (Ok made.1)) }
+    ensures refused { IfErr result (EndsIn (CoarseOf parts.points parts.quads parts.lines)) }
+{
+    let (ids, points, quads, lines) = parts.into_parts();
+    match QuadMesh::new(alloc, points, quads, lines) {
+        Ok(mesh) => Ok((ids, mesh)),
+        Err(fault) => Err(Ending::from(fault)),
+    }
+}
+
+/// The mesh after the problem's steps of refinement.
+fn refined(alloc: Global, mesh: QuadMesh, problem: &Problem) -> Result<Forest, Ending>
+    ensures ok { IfOk result (λ forest. RefinedFrom mesh problem.now (Ok forest)) }
+    ensures refused { IfErr result (EndsIn (RefinedFrom mesh problem.now)) }
+{
+    let mut forest = Forest::of(alloc, mesh)?;
+    match refine_by_steps(&mut forest, problem) {
+        Ok(()) => Ok(forest),
+        Err(fault) => Err(Ending::from(fault)),
+    }
+}
+
+/// The closed lines of the constrained dofs.
+fn closed_lines(
+    alloc: Global,
+    forest: &Forest,
+    dofs: &Dofs,
+    ids: &[u32],
+    problem: &Problem,
+) -> Result<Closed, Ending>
+    requires numbered { IsNumberingOf forest.now dofs.now }
+    requires ids { length ids.now ≤ 2 ^ 20 }
+    ensures ok { IfOk result (λ closed. LinesFor ids.now problem.now forest.now (Ok closed)) }
+    ensures refused { IfErr result (EndsIn (LinesFor ids.now problem.now forest.now)) }
+    ensures size { IfOk result (λ closed. length closed ≡ dofs.now.size) }
+{
+    let nodes = NodeIds::new(alloc, ids)?;
+    match constraint_lines(alloc, forest, dofs, &nodes, problem) {
+        Ok(closed) => Ok(closed),
+        Err(fault) => Err(Ending::from(fault)),
+    }
+}
+
+/// The set-up with its pattern.
+fn with_pattern(
+    rt: &(impl Threads + Sync),
+    alloc: Global,
+    forest: Forest,
+    dofs: Dofs,
+    closed: Closed,
+    problem: Problem,
+    interior: Interior,
+) -> Result<Setup, Ending>
+    requires numbered { IsNumberingOf forest dofs }
+    requires size { length closed ≡ dofs.size }
+    ensures ok { IfOk result (λ setup. PatternedFor interior problem forest closed (Ok setup)) }
+    ensures refused { IfErr result (EndsIn (PatternedFor interior problem forest closed)) }
+{
+    let flags = Flags {
+        cells: true,
+        boundary: true,
+        interior,
+        cells_after_faces: false,
+    };
+    match Setup::build(rt, alloc, forest, dofs, closed, problem, flags) {
+        Ok(setup) => Ok(setup),
+        Err(fault) => Err(Ending::from(fault)),
+    }
+}
