@@ -6,8 +6,6 @@
 mod adding;
 mod laws;
 mod row_writing;
-#[cfg(test)]
-mod tests;
 
 pub use adding::{add_cell, add_cell_to_state};
 pub use laws::parts_may_be_added;

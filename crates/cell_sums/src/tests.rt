@@ -118,11 +118,7 @@ fn are_below_four(dofs: &[u32]) -> bool
 
 /// The rows with the cell alone.
 #[tactic(auto, using(crate::proofs::Four::zero_rows_fit))]
-fn rows_with<R: Abort + AllocGlobal>(
-    rt: &R,
-    system: &System,
-    copy: &CellCopy,
-) -> Result<Rows, Fail>
+fn rows_with<R: Abort + AllocGlobal>(rt: &R, system: &System, copy: &CellCopy) -> Result<Rows, Fail>
     requires digits { system.now.digits ≤ 64 }
     requires holds { HoldsAll system.now.pattern.now system.now.closed.now (blocks_in copy.now) }
 {
@@ -134,11 +130,7 @@ fn rows_with<R: Abort + AllocGlobal>(
 
 /// The state with the cell alone.
 #[tactic(auto, using(crate::proofs::Four::zero_rows_fit))]
-fn state_with<R: AllocGlobal>(
-    rt: &R,
-    system: &System,
-    copy: &CellCopy,
-) -> Result<MatrixState, Fail>
+fn state_with<R: AllocGlobal>(rt: &R, system: &System, copy: &CellCopy) -> Result<MatrixState, Fail>
     requires digits { system.now.digits ≤ 64 }
     requires holds { HoldsAll system.now.pattern.now system.now.closed.now (blocks_in copy.now) }
 {
