@@ -10,8 +10,6 @@ mod masters;
 mod serial;
 mod setup;
 mod source;
-#[cfg(test)]
-mod tests;
 mod written;
 
 pub use cell_blocks::{CellCopy, CellScratch};
