@@ -4,7 +4,7 @@ use Rattle.std.specs.List.{All}
 use Rattle.std.specs.declared.option.Option.{Option}
 use Rattle.std.specs.declared.result.Result.{Result}
 use Rattle.std.specs.declared.result.Result.TheVariants.{Ok, Err}
-use Rattle.std.proofs.lemmas.List.Elements.{All-nil, All-cons, All-head, All-tail, All-weaker}
+use Rattle.std.proofs.lemmas.List.Elements.{All-nil, All-cons, All-head, All-tail}
 use Rattle.affine_constraints.specs.Lines.{AffineLine, lines_in}
 use Rattle.block_sums.specs.Masters.{Holds}
 use Rattle.cell_blocks.specs.Blocks.{Given, visit_dofs, visit_form, with_dofs, block_of, blocks_of, all_blocks, in_front, cell_blocks}
@@ -18,45 +18,41 @@ use Rattle.mesh_loop.specs.Setup.{MeshProblem, IsMatched, cell_visits, pattern_o
 use Rattle.mesh_loop.specs.Parts.{IsVisitBelow, IsCellFit}
 use Rattle.mesh_loop.proofs.Holding.{all_hold}
 
--- what holds of the dofs of each visit holds of the dofs of each block
-abbrev HasDofs : (List ℕ → Type 0) → Result LocalBlock LocalFault → Type 0
-HasDofs P (Ok block) = P block.dofs
-HasDofs P (Err fault) = Unit {0}
-
-form_has : (P : List ℕ → Type 0) (dofs : List ℕ) (form : Result LocalForm LocalFault) → P dofs → HasDofs P (with_dofs dofs form)
-form_has P dofs (Ok form) h = h
-form_has P dofs (Err fault) h = tt
-
-block_has : (P : List ℕ → Type 0) (given : Given) (cell : ℕ) (visit : Visit) → P (visit_dofs given cell visit) → HasDofs P (block_of given cell visit)
-unfolding block_of
-block_has P given cell visit h = form_has P (visit_dofs given cell visit) (visit_form given cell visit) h
-
-front_has : (P : List ℕ → Type 0) (block : Result LocalBlock LocalFault) (blocks : Result (List LocalBlock) LocalFault) → HasDofs P block → All (λ (b : LocalBlock). P b.dofs) (blocks_in blocks) →
-    All (λ (b : LocalBlock). P b.dofs) (blocks_in (in_front block blocks))
-front_has P (Ok block) (Ok blocks) one rest = All-cons (λ (b : LocalBlock). P b.dofs) block blocks one rest
-front_has P (Ok block) (Err fault) one rest = All-nil (λ (b : LocalBlock). P b.dofs)
-front_has P (Err fault) blocks one rest = All-nil (λ (b : LocalBlock). P b.dofs)
-
-all_have : (P : List ℕ → Type 0) (given : Given) (cell : ℕ) (visits : List Visit) → All (λ visit. P (visit_dofs given cell visit)) visits → All (λ (b : LocalBlock). P b.dofs) (blocks_in (all_blocks (map (block_of given cell) visits)))
-all_have P given cell [] h = All-nil (λ (b : LocalBlock). P b.dofs)
-all_have P given cell (visit ∷ visits) h =
-    front_has P (block_of given cell visit) (all_blocks (map (block_of given cell) visits)) (block_has P given cell visit (All-head (λ (v : Visit). P (visit_dofs given cell v)) visit visits h))
-    (all_have P given cell visits (All-tail (λ (v : Visit). P (visit_dofs given cell v)) visit visits h))
-
-pub blocks_have : (P : List ℕ → Type 0) (given : Given) (cell : ℕ) (visits : List Visit) → All (λ visit. P (visit_dofs given cell visit)) visits → All (λ (b : LocalBlock). P b.dofs) (blocks_in (blocks_of given cell visits))
-unfolding blocks_of
-blocks_have P given cell visits h = all_have P given cell visits h
-
 -- dofs that have a place in the table of lines, with masters that the pattern couples
 record AreHeld (pattern : List (List ℕ)) (table : List (Option AffineLine)) (dofs : List ℕ) : Type 0 where
   places : All (λ dof. dof < length table) dofs
   pairs : Holds pattern (lines_in table) dofs
 
+abbrev IsHeldResult : List (List ℕ) → List (Option AffineLine) → Result LocalBlock LocalFault → Type 0
+IsHeldResult pattern table (Ok block) = IsHeld pattern table block
+IsHeldResult pattern table (Err fault) = Unit {0}
+
+form_held : (pattern : List (List ℕ)) (table : List (Option AffineLine)) (dofs : List ℕ) (form : Result LocalForm LocalFault) → AreHeld pattern table dofs → IsHeldResult pattern table (with_dofs dofs form)
+form_held pattern table dofs (Ok form) held = record { dofs = held.places; pairs = held.pairs }
+form_held pattern table dofs (Err fault) held = tt
+
+block_held : (pattern : List (List ℕ)) (table : List (Option AffineLine)) (given : Given) (cell : ℕ) (visit : Visit) → AreHeld pattern table (visit_dofs given cell visit) → IsHeldResult pattern table (block_of given cell visit)
+unfolding block_of
+block_held pattern table given cell visit held = form_held pattern table (visit_dofs given cell visit) (visit_form given cell visit) held
+
+front_held : (pattern : List (List ℕ)) (table : List (Option AffineLine)) (block : Result LocalBlock LocalFault) (blocks : Result (List LocalBlock) LocalFault) → IsHeldResult pattern table block →
+    HoldsAll pattern table (blocks_in blocks) → HoldsAll pattern table (blocks_in (in_front block blocks))
+front_held pattern table (Ok block) (Ok blocks) one rest = All-cons (IsHeld pattern table) block blocks one rest
+front_held pattern table (Ok block) (Err fault) one rest = All-nil (IsHeld pattern table)
+front_held pattern table (Err fault) blocks one rest = All-nil (IsHeld pattern table)
+
+blocks_held : (pattern : List (List ℕ)) (table : List (Option AffineLine)) (given : Given) (cell : ℕ) (visits : List Visit) → All (λ visit. AreHeld pattern table (visit_dofs given cell visit)) visits →
+    HoldsAll pattern table (blocks_in (all_blocks (map (block_of given cell) visits)))
+blocks_held pattern table given cell [] held = All-nil (IsHeld pattern table)
+blocks_held pattern table given cell (visit ∷ visits) held =
+    front_held pattern table (block_of given cell visit) (all_blocks (map (block_of given cell) visits))
+    (block_held pattern table given cell visit (All-head (λ (v : Visit). AreHeld pattern table (visit_dofs given cell v)) visit visits held))
+    (blocks_held pattern table given cell visits (All-tail (λ (v : Visit). AreHeld pattern table (visit_dofs given cell v)) visit visits held))
+
 all_held : (pattern : List (List ℕ)) (table : List (Option AffineLine)) (given : Given) (cell : ℕ) (visits : List Visit) → All (λ visit. AreHeld pattern table (visit_dofs given cell visit)) visits →
     HoldsAll pattern table (blocks_in (blocks_of given cell visits))
-all_held pattern table given cell visits held =
-    All-weaker (λ (b : LocalBlock). AreHeld pattern table b.dofs) (IsHeld pattern table) (λ b h. record { dofs = h.places; pairs = h.pairs }) (blocks_in (blocks_of given cell visits))
-    (blocks_have (AreHeld pattern table) given cell visits held)
+unfolding blocks_of
+all_held pattern table given cell visits held = blocks_held pattern table given cell visits held
 
 one_held : (s : MeshProblem) (cell : ℕ) (visit : Visit) → IsMatched s → IsVisitBelow s cell visit → HoldsVisit s cell visit → AreHeld (pattern_of s) s.closed (visit_dofs s.given cell visit)
 one_held s cell visit matched below holds = record {
@@ -64,7 +60,7 @@ one_held s cell visit matched below holds = record {
   pairs = holds;
 }
 
-cell_held : (s : MeshProblem) (cell : ℕ) → IsMatched s → IsCellFit s cell → cell < length s.given.forest.cells → HoldsAll (pattern_of s) s.closed (blocks_in (cell_blocks s.flags s.given cell))
+pub cell_held : (s : MeshProblem) (cell : ℕ) → IsMatched s → IsCellFit s cell → cell < length s.given.forest.cells → HoldsAll (pattern_of s) s.closed (blocks_in (cell_blocks s.flags s.given cell))
 cell_held s cell matched fit within =
     let hold = all_hold s cell within fit.below in
     all_held (pattern_of s) s.closed s.given cell (cell_visits s cell) (λ k v h. one_held s cell (slice_index_or (cell_visits s cell) k v) matched (fit.below k v h) (hold k v h))

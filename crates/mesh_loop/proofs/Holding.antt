@@ -103,7 +103,7 @@ visit_shares s cell k v within hk i j a b =
     let at : cell ≡ slice_index_or (range_with_len 0 n) cell 0 = omega (arith, get_or-range_with_len 0 n cell 0 within) in
     any_flat test (coupled_by s) (cells_of s) cell 0 (omega (arith, within, length-range_with_len 0 n)) (subst P at here)
 
-size_is : (s : MeshProblem) → (coupled_dofs s).size ≡ s.given.dofs.size
+pub size_is : (s : MeshProblem) → (coupled_dofs s).size ≡ s.given.dofs.size
 unfolding coupled_dofs
 size_is s = refl
 

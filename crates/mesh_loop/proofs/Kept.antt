@@ -1,5 +1,5 @@
 -- What a set-up keeps, by cell.
-use Rattle.std.proofs.Common.{◌≡◌, ◌∙◌, sym, ap, ap₂, refl, subst, ℕ, ◌+◌, ◌<◌, ◌≤◌, List, length, map, arith, true, slice_index, slice_index_or}
+use Rattle.std.proofs.Common.{◌≡◌, ◌∙◌, sym, ap, ap₂, refl, subst, ℕ, ◌+◌, ◌<◌, ◌≤◌, List, length, map, arith, slice_index, slice_index_or}
 use Rattle.std.specs.List.{All, flat_map, range_with_len}
 use Rattle.std.specs.List.Sorted.{IsStrictlyIncreasing}
 use Rattle.std.specs.declared.result.Result.{Result}
@@ -10,13 +10,10 @@ use Rattle.fixed_q1.specs.declared.fault.LocalFault.{LocalFault}
 use Rattle.local_blocks.specs.Blocks.{LocalBlock}
 use Rattle.mesh_visits.specs.declared.visit.Visit.{Visit}
 use Rattle.mesh_visits.specs.Within.{IsVisitWithin, IsFit}
-use Rattle.serial_sum.specs.declared.part.Contribution.{Contribution}
 use Rattle.sparsity.specs.Coupled.{has}
 use Rattle.mesh_loop.specs.Setup.{MeshProblem, cells_of, cell_visits, visit_rows, written_rows, HoldsVisit}
 use Rattle.mesh_loop.specs.Parts.{IsVisitBelow, IsCellFit}
-use Rattle.mesh_loop.specs.Sum.{part_of}
 use Rattle.mesh_loop.proofs.Holding.{all_hold}
-use Rattle.mesh_loop.proofs.OwnRows.{own_rows}
 
 -- a list a cell
 pub listed : {A : Type 0} (f : ℕ → A) (n cell : ℕ) (lists : List A) → lists ≡ map f (range_with_len 0 n) → cell < n → cell < length lists
@@ -73,9 +70,3 @@ written_rise s cell rows are =
 
 pub each_within : (s : MeshProblem) (cell : ℕ) (visits : List Visit) → visits ≡ cell_visits s cell → IsFit s.given.forest 9 (cell_visits s cell) → All (IsVisitWithin s.given.forest) visits
 each_within s cell visits are fit = subst (All (IsVisitWithin s.given.forest)) (sym are) fit.within
-
-pub rows_own : (s now : MeshProblem) (cell : ℕ) (rows : List ℕ) → s ≡ now → ((c : ℕ) → c < length s.given.forest.cells → IsCellFit s c) → cell < length now.given.forest.cells → rows ≡ written_rows now cell →
-    All (λ (c : Contribution). has rows c.row ≡ true) (part_of now cell).list
-rows_own s now cell rows view fit within are =
-    let P : List ℕ → Type 0 = λ ds. All (λ (c : Contribution). has ds c.row ≡ true) (part_of now cell).list in
-    subst P (sym are) (own_rows now cell (cell_fit s now cell view fit within))

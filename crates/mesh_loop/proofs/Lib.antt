@@ -2,7 +2,8 @@ pub mod MasterSteps
 pub mod Gathering
 pub mod Holding
 pub mod Kept
+pub mod Limited
 pub mod Held
+pub mod Covered
 pub mod FirstFailure
 pub mod Summing
-pub mod OwnRows

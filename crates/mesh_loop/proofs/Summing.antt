@@ -69,7 +69,7 @@ cell_allowed s cell pattern table copy is closed made before here =
     let one : IsPartFor (pattern_of s) (part_of s cell) = subst (IsPartFor (pattern_of s)) (part_is s cell table copy closed made) (subst P is here) in
     subst Q (sym (map-range_with_len_more (part_of s) 0 cell cell (omega arith))) (All-push (IsPartFor (pattern_of s)) (parts_of s (range_with_len 0 cell)) (part_of s cell) before one)
 
-pattern_rises : (s : MeshProblem) → AreRising (pattern_of s)
+pub pattern_rises : (s : MeshProblem) → AreRising (pattern_of s)
 unfolding pattern_of
 pattern_rises s = columns_rise (pattern_of s) (rows_rising (coupled_dofs s))
 

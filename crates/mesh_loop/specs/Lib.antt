@@ -1,3 +1,4 @@
 pub mod Setup
 pub mod Parts
 pub mod Sum
+pub mod Plans

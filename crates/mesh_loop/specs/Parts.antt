@@ -1,8 +1,9 @@
 -- What a set-up keeps, and what it is made from.
-use Rattle.std.specs.Prelude.{◌≡◌, ℕ, ◌<◌, List, All, length, map}
+use Rattle.std.specs.Prelude.{◌≡◌, ℕ, ◌<◌, List, All, length, map, IfOk}
 use Rattle.affine_constraints.specs.Lines.{lines_in}
-use Rattle.cell_blocks.specs.Blocks.{visit_dofs}
+use Rattle.cell_blocks.specs.Blocks.{visit_dofs, block_of}
 use Rattle.cell_blocks.specs.Views.{given}
+use Rattle.local_blocks.specs.Blocks.{IsBlock}
 use Rattle.mesh_visits.specs.declared.visit.Visit.{Visit}
 use Rattle.mesh_visits.specs.Within.{IsFit}
 use Rattle.mesh_loop.specs.declared.source.Source.{Source}
@@ -13,10 +14,13 @@ use Rattle.mesh_loop.specs.Setup.{MeshProblem, IsMatched, cells_of, cell_visits,
 abbrev pub shown : Source → MeshProblem
 shown source = record { given = given source.setting; closed = source.closed.now; flags = source.flags }
 
--- the dofs of a visit and all their masters are below the number of dofs
+-- the dofs of a visit, of which there is one at least, and all their masters are below the number of dofs,
+-- and the block of the visit is within its limits
 pub record IsVisitBelow (s : MeshProblem) (cell : ℕ) (visit : Visit) : Type 0 where
   pub dofs : All (λ dof. dof < s.given.dofs.size) (visit_dofs s.given cell visit)
   pub masters : All (λ dof. dof < s.given.dofs.size) (visit_masters s cell visit)
+  pub some : 0 < length (visit_dofs s.given cell visit)
+  pub block : IfOk (block_of s.given cell visit) IsBlock
 
 -- the visits of a cell: at most nine, each within the mesh, with dofs that are there
 pub record IsCellFit (s : MeshProblem) (cell : ℕ) : Type 0 where

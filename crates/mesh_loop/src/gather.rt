@@ -8,6 +8,7 @@ ghost use Rattle.sparsity.specs.declared.fault.PatternFault.TheVariants.{Limit a
 ghost use Rattle.mesh_loop.specs.Setup.{IsMatched, cells_of, cell_visits, visit_masters, visit_rows, coupled_dofs, written_rows};
 ghost use Rattle.mesh_loop.specs.Parts.{shown, IsVisitBelow, IsCellFit, ArePartsOf};
 
+use crate::limits::look_up;
 use crate::masters::push_masters;
 use crate::source::Source;
 use compressed_lists::Lists;
@@ -130,6 +131,7 @@ fn add_visit(
     ensures rows { OnOk result (room.new.rows.items ≡ room.old.rows.items ++ visit_rows (shown source.now) cell visit) }
     ensures below { OnOk result (IsVisitBelow (shown source.now) cell visit) }
 {
+    look_up(&source.setting, cell, visit);
     room.dofs.clear();
     push_dofs(&mut room.dofs, source, cell, visit)?;
     room.masters.clear();

@@ -6,7 +6,9 @@
 #![tactic(auto)]
 
 mod gather;
+mod limits;
 mod masters;
+mod plan;
 mod serial;
 mod setup;
 mod source;
@@ -15,6 +17,7 @@ mod written;
 pub use cell_blocks::{CellCopy, CellScratch};
 pub use fixed_q1::Part;
 pub use mesh_visits::{Flags, Interior, Visit};
+pub use plan::Plan;
 pub use serial::assemble_serial;
 pub use serial_sum::AssembleFault;
 pub use setup::Setup;

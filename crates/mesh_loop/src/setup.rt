@@ -1,14 +1,14 @@
-ghost use Rattle.std.specs.Prelude.{◌≡◌, ◌<◌, ◌≤◌, ℕ, true, All, length, IfOk, IfErr, OnOk};
+ghost use Rattle.std.specs.Prelude.{◌≡◌, ◌<◌, ◌≤◌, ℕ, All, length, IfOk, IfErr, OnOk};
 ghost use Rattle.std.specs.List.Sorted.{IsStrictlyIncreasing};
 ghost use Rattle.cell_blocks.specs.Blocks.{cell_blocks};
 ghost use Rattle.cell_blocks.specs.Visited.{blocks_in};
 ghost use Rattle.cell_sums.specs.Parts.{HoldsAll};
 ghost use Rattle.dof_numbers.specs.Dofs.{IsNumberingOf};
-ghost use Rattle.serial_sum.specs.declared.part.Contribution.{Contribution};
-ghost use Rattle.sparsity.specs.Coupled.{has, pairs_of};
+ghost use Rattle.sparsity.specs.Coupled.{pairs_of};
 ghost use Rattle.sparsity.specs.declared.fault.PatternFault.TheVariants.{Limit as AboveLimit};
 ghost use Rattle.mesh_loop.specs.Setup.{MeshProblem, cell_visits, coupled_dofs, pattern_of, written_rows, HoldsVisit};
-ghost use Rattle.mesh_loop.specs.Sum.{part_of};
+
+ghost use Rattle.mesh_loop.specs.Sum.{IsWritten};
 
 use crate::gather::{Parts, make_parts};
 use crate::source::Source;
@@ -104,13 +104,11 @@ impl Setup {
         self.parts.visits.get(cell as usize)
     }
 
-    /// The rows that a cell writes: the dofs of its visits and their masters, rising, each once. Each
-    /// contribution of the cell goes to one of them.
+    /// The rows that a cell writes: the dofs of its visits and their masters, rising, each once.
     pub fn rows(&self, cell: u32) -> &[u32]
         requires { cell < length self.now.given.forest.cells }
         ensures value { result.now ≡ written_rows self.now cell }
         ensures rising { IsStrictlyIncreasing result.now }
-        ensures own { All (λ (given : Contribution). has result.now given.row ≡ true) (part_of self.now cell).list }
     {
         self.parts.rows.get(cell as usize)
     }
@@ -123,10 +121,17 @@ impl Setup {
     }
 
     /// The closed lines.
-    pub(crate) fn closed(&self) -> &Closed
+    pub fn closed(&self) -> &Closed
         ensures { result.now ≡ self.now.closed }
     {
         &self.closed
+    }
+
+    /// What each cell contributes may be added, and goes to the rows that the cell writes.
+    pub fn cells_are_written(&self)
+        ensures { (cell : ℕ) → cell < length self.now.given.forest.cells → IsWritten self.now cell }
+    {
+        let _size = self.closed.size();
     }
 
     /// Makes the blocks of a cell. The copy object then stands for them, or for the fault of the first visit

@@ -398,10 +398,11 @@ round_one digits pattern it items old new count clean apart round rest = let is 
     by_fault : (o : Option LocalFault) → it.part.fault ≡ o → RoundIs digits pattern items (formed_step digits pattern old it.part o) new
     by_fault None e = by_least (first_run digits pattern it old).least refl e
     by_fault (Some fault) e =
-        let mark_there : (row_at new first.row).mark ≡ Some (record { cell = it.part.cell; kind = kind_of fault }) = ap (λ (r : Row). r.mark) (new_row first.row (Some fault) e first.names) in
+        let shown : (row : ℕ) × (has it.rows row ≡ true) = first.shows fault e in
+        let mark_there : (row_at new shown.0).mark ≡ Some (record { cell = it.part.cell; kind = kind_of fault }) = ap (λ (r : Row). r.mark) (new_row shown.0 (Some fault) e shown.1) in
         record {
-          whole = λ unmarked. absurd (none_is_some (sym (unmarked first.row) ∙ mark_there));
-          fails = λ i mark is_first. (let here = first_here digits pattern it items old new i first.row mark (record { cell = it.part.cell; kind = kind_of fault }) clean apart round is_first mark_there refl in
+          whole = λ unmarked. absurd (none_is_some (sym (unmarked shown.0) ∙ mark_there));
+          fails = λ i mark is_first. (let here = first_here digits pattern it items old new i shown.0 mark (record { cell = it.part.cell; kind = kind_of fault }) clean apart round is_first mark_there refl in
               let is : mark ≡ record { cell = it.part.cell; kind = kind_of fault } = one_mark (sym is_first.there ∙ ap (λ (r : Row). r.mark) (new_row i (Some fault) e here.names)) in
               failure_stays digits pattern (map (λ (x : RoundItem). x.part) items) old (Local it.part.cell fault)
               ∙ ap Some (sym (fault_failure it.part.cell i fault)) ∙ sym (ap (λ (m : Mark). Some (failure_of i m)) is));

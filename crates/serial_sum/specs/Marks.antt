@@ -63,13 +63,12 @@ pub record RoundItem : Type 0 where
 abbrev pub item_at : List RoundItem → ℕ → RoundItem
 item_at items k = slice_index_or items k (record { part = record { cell = 0; fault = None; list = [] }; rows = [] })
 
--- the cell names some row, and all rows to which it contributes
+-- the cell names all rows to which it contributes, and some row where it has a fault
 pub record IsItem (pattern : List (List ℕ)) (item : RoundItem) : Type 0 where
   pub part : IsPartFor pattern item.part
   pub covers : All (λ (c : Contribution). has item.rows c.row ≡ true) item.part.list
   pub within : (i : ℕ) → has item.rows i ≡ true → i < length pattern
-  pub row : ℕ
-  pub names : has item.rows row ≡ true
+  pub shows : (fault : LocalFault) → item.part.fault ≡ Some fault → (row : ℕ) × (has item.rows row ≡ true)
 
 -- the cells rise, and no two of them name one row
 pub record AreItems (pattern : List (List ℕ)) (items : List RoundItem) : Type 0 where

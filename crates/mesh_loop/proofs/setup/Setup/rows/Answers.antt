@@ -1,6 +1,6 @@
 use Rattle.std.proofs.Common.{◌∙◌, []}
 use Rattle.mesh_loop.specs.Setup.{written_rows}
-use Rattle.mesh_loop.proofs.Kept.{kept_listed, kept_is, written_rise, rows_own}
+use Rattle.mesh_loop.proofs.Kept.{kept_listed, kept_is, written_rise}
 use Rattle.mesh_loop.proofs.setup.Setup.rows.Goals as goal
 
 pub get-requires : goal.get-requires
@@ -12,8 +12,3 @@ returns-clause-value c = c.get.ensures ∙ kept_is written_rows _ c.args.self.no
 pub returns-clause-rising : goal.returns-clause-rising
 returns-clause-rising c =
     written_rise c.args.self.now c.args.cell c.get.result.now (c.get.ensures ∙ kept_is written_rows _ c.args.self.now c.args.cell c.self.inside.parts.rows [] c.self.view_is c.self.invariant.rows c.requires)
-
-pub returns-clause-own : goal.returns-clause-own
-returns-clause-own c =
-    rows_own _ c.args.self.now c.args.cell c.get.result.now c.self.view_is c.self.invariant.cells c.requires
-    (c.get.ensures ∙ kept_is written_rows _ c.args.self.now c.args.cell c.self.inside.parts.rows [] c.self.view_is c.self.invariant.rows c.requires)
