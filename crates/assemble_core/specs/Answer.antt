@@ -1,85 +1,49 @@
--- What the words and the held texts define: the text for the output, or a refusal.
-use Rattle.std.specs.Prelude.{◌≡◌, ℕ, ◌<◌, ◌≤◌, List, length, Some, None, Ok, Err}
+-- What words define over what a store holds: the texts that are written, or a refusal. The steps of the work follow one
+-- another up to the first that is refused.
+use Rattle.std.specs.Prelude.{◌≡◌, ℕ, List, Bool, true, false, Ok, Err}
 use Rattle.std.specs.declared.option.Option.{Option}
 use Rattle.std.specs.declared.result.Result.{Result}
 use Rattle.fem_fixed.specs.Mesh.{Mesh}
 use Rattle.fem_text.specs.Outside.{Held}
-use Rattle.ucd_read.specs.Ucd.{Ucd, UcdFaultAt}
-use Rattle.quad_mesh.specs.Mesh.{CoarseMesh, mesh_of}
-use Rattle.quad_mesh.specs.declared.fault.MeshFault.{MeshFault}
-use Rattle.assemble_core.specs.Words.{mesh_name}
-use Rattle.assemble_core.specs.Numbering.{dof_count}
-use Rattle.assemble_core.specs.SerialSum.{Block, HasSum}
-use Rattle.assemble_core.specs.System.{blocks, matrix_entries, FailsWith}
-use Rattle.assemble_core.specs.MatrixText.{matrix_text}
-use Rattle.assemble_core.specs.declared.assembly.AssembleFault.TheVariants as sums
-use Rattle.assemble_core.specs.declared.refusal.Refusal.{Refusal}
-use Rattle.assemble_core.specs.declared.refusal.Refusal.TheVariants as refusals
-use Rattle.assemble_core.specs.Refusals.{status_of}
+use Rattle.mesh_visits.specs.declared.flags.Interior.{Interior}
+use Rattle.mesh_visits.specs.declared.flags.Interior.TheVariants as interiors
+use Rattle.problem_read.specs.Entries.{ProblemParts}
+use Rattle.run_words.specs.declared.options.Mode.{Mode}
+use Rattle.run_words.specs.declared.options.Faces.{Faces}
+use Rattle.run_words.specs.declared.options.Faces.TheVariants as faces
+use Rattle.run_words.specs.Choice.{Choice}
+use Rattle.run_words.specs.Words.{AskFor}
+use Rattle.run_texts.specs.Read.{SourceRead}
+use Rattle.run_outputs.specs.Targets.{Target}
+use Rattle.system_setup.specs.SetUp.{IsSetUp}
+use Rattle.system_texts.specs.Texts.{SystemTexts}
+use Rattle.diagnostics.specs.declared.refusal.Refusal.{Refusal}
+use Rattle.diagnostics.specs.declared.refusal.Refusal.TheVariants.{Words}
+use Rattle.diagnostics.specs.Stages.{Then}
 
-pub data Answer : Type 0 where
-  refuses : Refusal → Answer
-  -- the text for the output
-  writes : List ℕ → Answer
+-- words that ask for nothing in a mode that is taken
+abbrev pub AreRefused : (Mode → Bool) → List (List ℕ) → Type 0
+AreRefused takes words = (choice : Choice) → AskFor words choice → takes choice.mode ≡ false
 
--- the status of an answer
-abbrev pub answer_status : Answer → ℕ
-answer_status (refuses refusal) = status_of refusal
-answer_status (writes text) = 0
+-- what the words ask for, in a mode that is taken, or that they are refused
+abbrev pub Asked : (Mode → Bool) → List (List ℕ) → Result Choice Refusal → Type 0
+Asked takes words (Ok choice) = AskFor words choice × (takes choice.mode ≡ true)
+Asked takes words (Err refusal) = AreRefused takes words × (refusal ≡ Words)
 
--- the greatest length of a text
-unfoldable pub text_limit : ℕ
-text_limit = 268435456
+-- the interior faces that are visited
+abbrev pub interior_of : Faces → Interior
+interior_of faces.None = interiors.None
+interior_of faces.Once = interiors.Once
+interior_of faces.Both = interiors.Both
 
--- the coarse mesh of what a text says, or its first fault
-abbrev pub coarse_of : Mesh → Result CoarseMesh MeshFault
-coarse_of parts = mesh_of parts.points parts.quads parts.lines
+-- the set-up of a mesh and a problem, and then the texts of its system
+abbrev pub Assembled : Choice → (Mesh × ProblemParts) → Result (List Target) Refusal → Type 0
+Assembled choice read = Then (IsSetUp (interior_of choice.faces) read.0 read.1) (SystemTexts choice)
 
--- this is the coarse mesh of a mesh text
-pub record IsMeshOf (text : List ℕ) (mesh : CoarseMesh) : Type 0 where
-  pub parts : Mesh
-  pub read : Ucd text parts
-  pub coarse : coarse_of parts ≡ Ok mesh
+-- the mesh and the problem of the source, and then what is assembled of them
+abbrev pub Defines : Option Held → Choice → Result (List Target) Refusal → Type 0
+Defines holds choice = Then (SourceRead holds choice.source) (Assembled choice)
 
--- the cells of a mesh in file order
-abbrev pub mesh_blocks : CoarseMesh → List Block
-mesh_blocks mesh = blocks mesh.points mesh.cells
-
--- this is the matrix text of a mesh text
-pub record IsMatrixOf (text made : List ℕ) : Type 0 where
-  pub mesh : CoarseMesh
-  pub mesh_is : IsMeshOf text mesh
-  pub sum : HasSum 0 (mesh_blocks mesh)
-  pub made_is : made ≡ matrix_text (dof_count mesh.cells) (matrix_entries mesh.points mesh.cells)
-
--- a text that isn't too long has no matrix: its first fault, that of its coarse mesh, or the first cell that fails
-abbrev pub HasNoMatrix : List ℕ → Refusal → Type 0
-HasNoMatrix text refusals.Words = ⊥
-HasNoMatrix text refusals.Absent = ⊥
-HasNoMatrix text refusals.MeshSize = ⊥
-HasNoMatrix text (refusals.MeshText fault) = UcdFaultAt text fault.kind fault.line
-HasNoMatrix text (refusals.Mesh fault) = (parts : Mesh) × Ucd text parts × (coarse_of parts ≡ Err fault)
-HasNoMatrix text (refusals.Local cell fault) = (mesh : CoarseMesh) × IsMeshOf text mesh × FailsWith (mesh_blocks mesh) (sums.Local cell fault)
-HasNoMatrix text (refusals.Sum cell row) = (mesh : CoarseMesh) × IsMeshOf text mesh × FailsWith (mesh_blocks mesh) (sums.Sum cell row)
-
--- a text of this length is too long, or else it decides
-abbrev pub TextRefuses : List ℕ → Refusal → Type 0
-TextRefuses text refusals.MeshSize = text_limit < length text
-TextRefuses text refusal = (length text ≤ text_limit) × HasNoMatrix text refusal
-
--- what a text has for an answer, held or not
-abbrev pub TextAnswers : Option (List ℕ) → Answer → Type 0
-TextAnswers None (refuses refusal) = refusal ≡ refusals.Absent
-TextAnswers None (writes made) = ⊥
-TextAnswers (Some text) (refuses refusal) = TextRefuses text refusal
-TextAnswers (Some text) (writes made) = (length text ≤ text_limit) × IsMatrixOf text made
-
--- the words refuse, or else the text under the name that they give decides
-abbrev pub AnswersFor : Option (List ℕ) → Held → Answer → Type 0
-AnswersFor None held (refuses refusal) = refusal ≡ refusals.Words
-AnswersFor None held (writes made) = ⊥
-AnswersFor (Some name) held answer = TextAnswers (held name) answer
-
--- the words and the held texts have this answer
-abbrev pub Answers : List (List ℕ) → Held → Answer → Type 0
-Answers words held answer = AnswersFor (mesh_name words) held answer
+-- what the words ask for, and then what that defines
+abbrev pub Answers : (Mode → Bool) → List (List ℕ) → Option Held → Result (List Target) Refusal → Type 0
+Answers takes words holds = Then (Asked takes words) (Defines holds)

@@ -1,12 +1,3 @@
-pub mod Words
-pub mod Refusals
+pub mod Modes
 pub mod Answer
 pub mod Run
-pub mod Numbering
-pub mod NumberTable
-pub mod Pattern
-pub mod SerialSum
-pub mod System
-pub mod Sums
-pub mod CellSteps
-pub mod MatrixText

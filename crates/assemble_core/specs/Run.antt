@@ -1,112 +1,87 @@
--- What a run of the program may leave.
-use Rattle.std.specs.Prelude.{◌≡◌, ◌⊎◌, ℕ, List, [], ◌∷◌, Bool, ◌==◌, IfSome, Some, None, Ok, Err, true, false, codes, if◌then◌else◌}
+-- What a run leaves, and its status.
+use Rattle.std.specs.Prelude.{◌≡◌, ◌⊎◌, ℕ, List, [], ◌∷◌, Bool, ◌==◌, true, Some, None, Ok, Err}
 use Rattle.std.specs.declared.option.Option.{Option}
 use Rattle.std.specs.declared.result.Result.{Result}
 use Rattle.std.specs.List.{list_any}
 use Rattle.fem_text.specs.declared.counts.Counts.{Counts}
-use Rattle.fem_text.specs.Counts.{Rose, after_call}
-use Rattle.fem_text.specs.Outside.{Held, appended, TookPrefix}
-use Rattle.ucd_read.specs.Faults.{UcdFault}
-use Rattle.ucd_read.specs.declared.fault.UcdKind.{UcdKind}
-use Rattle.ucd_read.specs.declared.fault.UcdKind.TheVariants as kinds
-use Rattle.quad_mesh.specs.declared.fault.MeshFault.{MeshFault}
-use Rattle.quad_mesh.specs.declared.fault.MeshFault.TheVariants as meshes
-use Rattle.assemble_core.specs.declared.assembly.AssembleFault.{AssembleFault}
-use Rattle.assemble_core.specs.declared.assembly.AssembleFault.TheVariants as sums
-use Rattle.assemble_core.specs.declared.refusal.Refusal.{Refusal}
-use Rattle.assemble_core.specs.declared.refusal.Refusal.TheVariants as refusals
-use Rattle.assemble_core.specs.declared.run.Fault.{Fault}
-use Rattle.assemble_core.specs.declared.run.Fault.TheVariants.{Refused, Read, Write, Memory}
-use Rattle.assemble_core.specs.Words.{mesh_name}
-use Rattle.assemble_core.specs.Refusals.{status_of, line_of, TookLine}
-use Rattle.assemble_core.specs.Answer.{Answer, refuses, writes, Answers, answer_status, HasNoMatrix}
+use Rattle.fem_text.specs.Counts.{AllWell, EndsInFault}
+use Rattle.fem_text.specs.Outside.{Held}
+use Rattle.run_words.specs.declared.options.Mode.{Mode}
+use Rattle.run_words.specs.Choice.{Choice}
+use Rattle.run_texts.specs.Read.{GoesOnTo}
+use Rattle.run_outputs.specs.Targets.{Target, World, after_targets}
+use Rattle.run_outputs.specs.Stops.{Calls, AllCallsWell, StopsAmong}
+use Rattle.diagnostics.specs.declared.ending.Role.{Role}
+use Rattle.diagnostics.specs.declared.ending.Output.{Output}
+use Rattle.diagnostics.specs.declared.ending.Ending.{Ending}
+use Rattle.diagnostics.specs.declared.ending.Ending.TheVariants.{Refused, ReadFault, WriteFault, NoMemory}
+use Rattle.diagnostics.specs.Lines.{ending_status, ending_line, TookLine}
+use Rattle.assemble_core.specs.Answer.{Asked, Defines, Answers}
 
--- the words and held texts define a text, and the output took it and nothing else
-abbrev pub Written : List (List ℕ) → Option Held → Option (List ℕ) → Option (List ℕ) → Type 0
-Written words held out now =
-    IfSome held (λ texts. (made : List ℕ) × Answers words texts (writes made) × (now ≡ appended out made))
+-- the making of the texts of a choice ends so
+abbrev pub EndsDefining : Option Held → Choice → Ending → Type 0
+EndsDefining holds choice (Refused refusal) = Defines holds choice (Err refusal)
+EndsDefining holds choice (ReadFault role) = GoesOnTo holds choice.source role
+EndsDefining holds choice (WriteFault output) = ⊥
+EndsDefining holds choice NoMemory = Unit {0}
 
--- they define a text, and the output took a prefix of it
-abbrev pub WrittenInPart : List (List ℕ) → Option Held → Option (List ℕ) → Option (List ℕ) → Type 0
-WrittenInPart words held out now =
-    IfSome held (λ texts. (made : List ℕ) × Answers words texts (writes made) × TookPrefix out now made)
+-- nothing was written or put, and no call failed
+pub record IsUntouched (before : World) (calls : Calls) (now : World) (calls_now : Calls) : Type 0 where
+  pub same : now ≡ before
+  pub reads : AllWell calls.store calls_now.store
+  pub no_put : calls_now.out ≡ calls.out
 
--- they define this refusal
-abbrev pub Refuses : List (List ℕ) → Option Held → Refusal → Type 0
-Refuses words held refusal = IfSome held (λ texts. Answers words texts (refuses refusal))
+-- the last read failed, and nothing was written or put
+pub record IsReadFault (before : World) (calls : Calls) (now : World) (calls_now : Calls) : Type 0 where
+  pub same : now ≡ before
+  pub reads : EndsInFault calls.store calls_now.store
+  pub no_put : calls_now.out ≡ calls.out
 
--- the status is that of a refusal
-abbrev pub is_refusal : ℕ → Bool
-is_refusal status = list_any (λ number. number == status) (2 ∷ 3 ∷ 5 ∷ 7 ∷ 8 ∷ 9 ∷ 17 ∷ [])
+-- the writing of what the words define stopped so
+pub record StopsWriting (takes : Mode → Bool) (words : List (List ℕ)) (before : World) (calls : Calls) (now : World) (calls_now : Calls) (ending : Ending) : Type 0 where
+  pub targets : List Target
+  pub answer : Answers takes words before.holds (Ok targets)
+  pub stops : StopsAmong targets before now calls calls_now ending
 
--- they define a refusal with this status, and the diagnostics took its line, or a prefix where a put failed
-pub record Told (words : List (List ℕ)) (held : Option Held) (err now : Option (List ℕ)) (counts counts_now : Counts) (status : ℕ) : Type 0 where
-  pub refusal : Refusal
-  pub status_is : status ≡ status_of refusal
-  pub refuses : Refuses words held refusal
-  pub line : TookLine err now counts counts_now (line_of refusal)
+-- what a run of these words leaves by its end: all is written; the words define a refusal; a read failed, before which
+-- nothing is refused; a write failed; or memory ran out, before anything was written or in a write
+abbrev pub Leaves : (Mode → Bool) → List (List ℕ) → World → Calls → World → Calls → Result Unit Ending → Type 0
+Leaves takes words before calls now calls_now (Ok unit) =
+    (targets : List Target) × Answers takes words before.holds (Ok targets) × (now ≡ after_targets before targets) × AllCallsWell calls calls_now
+Leaves takes words before calls now calls_now (Err (Refused refusal)) =
+    Answers takes words before.holds (Err refusal) × IsUntouched before calls now calls_now
+Leaves takes words before calls now calls_now (Err (ReadFault role)) =
+    (choice : Choice) × Asked takes words (Ok choice) × GoesOnTo before.holds choice.source role × IsReadFault before calls now calls_now
+Leaves takes words before calls now calls_now (Err (WriteFault output)) =
+    StopsWriting takes words before calls now calls_now (WriteFault output)
+Leaves takes words before calls now calls_now (Err NoMemory) =
+    ((choice : Choice) × Asked takes words (Ok choice) × IsUntouched before calls now calls_now)
+    ⊎ StopsWriting takes words before calls now calls_now NoMemory
 
--- the line that goes to the diagnostics with 10, 11 or 12
-unfoldable pub outside_line : ℕ → List ℕ
-outside_line status =
-    if status == 10 then codes "assemble: 10 ReadFault mesh\n"
-    else if status == 11 then codes "assemble: 11 WriteFault matrix\n"
-    else codes "assemble: 12 NoMemory\n"
+-- all that a run may change: the store and standard output, what they count, and what the diagnostics took and count
+pub record Outside : Type 0 where
+  pub world : World
+  pub calls : Calls
+  pub told : Option (List ℕ)
+  pub tells : Counts
 
--- where neither the store nor the output failed, the status is the answer's, or that of want of memory
-abbrev pub IsComplete : List (List ℕ) → Option Held → Counts → Counts → Counts → Counts → ℕ → Type 0
-IsComplete words held store store_now out out_now status =
-    (Rose store store_now → ⊥) → (Rose out out_now → ⊥) →
-    IfSome held (λ texts. (answer : Answer) → Answers words texts answer → (status ≡ answer_status answer) ⊎ (status ≡ 12))
+-- the diagnostics took the line of an end, or a prefix of it, and nothing where all is well
+abbrev pub Tells : Outside → Outside → Result Unit Ending → Type 0
+Tells before now (Ok unit) = (now.told ≡ before.told) × (now.tells ≡ before.tells)
+Tells before now (Err ending) = TookLine before.told now.told before.tells now.tells (ending_line ending)
 
--- what the store counts after a run: words that name no mesh call nothing, and all others read once
-abbrev pub counts_after : Option (List ℕ) → Bool → Counts → Counts
-counts_after None failed before = before
-counts_after (Some name) failed before = after_call failed before
+-- 0 where all is well
+abbrev pub status_of : Result Unit Ending → ℕ
+status_of (Ok unit) = 0
+status_of (Err ending) = ending_status ending
 
--- the words name this text of those that are held
-abbrev pub NamesText : List (List ℕ) → Option Held → List ℕ → Type 0
-NamesText words held text = IfSome held (λ texts. (name : List ℕ) × (mesh_name words ≡ Some name) × (texts name ≡ Some text))
+-- a run of these words ended with this status
+pub record IsRun (takes : Mode → Bool) (words : List (List ℕ)) (before now : Outside) (status : ℕ) : Type 0 where
+  pub end : Result Unit Ending
+  pub status_is : status ≡ status_of end
+  pub leaves : Leaves takes words before.world before.calls now.world now.calls end
+  pub tells : Tells before now end
 
--- the status of a run
+-- the statuses of runs
 abbrev pub is_status : ℕ → Bool
-is_status status = list_any (λ number. number == status) (0 ∷ 2 ∷ 3 ∷ 5 ∷ 7 ∷ 8 ∷ 9 ∷ 10 ∷ 11 ∷ 12 ∷ 17 ∷ [])
-
--- what a fault says of the words and the held texts
-abbrev pub FaultSays : List (List ℕ) → Option Held → Fault → Type 0
-FaultSays words held (Refused refusal) = Refuses words held refusal
-FaultSays words held Read = Unit {0}
-FaultSays words held Write = Unit {0}
-FaultSays words held Memory = Unit {0}
-
--- what a fault says of a text that isn't too long
-abbrev pub TextFails : List ℕ → Fault → Type 0
-TextFails text (Refused refusal) = HasNoMatrix text refusal
-TextFails text Read = ⊥
-TextFails text Write = ⊥
-TextFails text Memory = Unit {0}
-
--- the faults of the layers as faults of a run
-abbrev pub of_kind : UcdKind → UcdFault → Fault
-of_kind kinds.NoMemory fault = Memory
-of_kind kind fault = Refused (refusals.MeshText fault)
-
-abbrev pub of_reading : UcdFault → Fault
-of_reading fault = of_kind fault.kind fault
-
-abbrev pub of_mesh : MeshFault → Fault
-of_mesh meshes.NoMemory = Memory
-of_mesh fault = Refused (refusals.Mesh fault)
-
-abbrev pub of_assembly : AssembleFault → Fault
-of_assembly (sums.Local cell fault) = Refused (refusals.Local cell fault)
-of_assembly (sums.Sum cell row) = Refused (refusals.Sum cell row)
-of_assembly sums.NoMemory = Memory
-
--- the read failed
-abbrev pub read_failed : {T : Type 0} → Result T Fault → Bool
-read_failed (Err Read) = true
-read_failed (Err Write) = false
-read_failed (Err Memory) = false
-read_failed (Err (Refused refusal)) = false
-read_failed (Ok value) = false
+is_status status = list_any (λ number. number == status) (0 ∷ 2 ∷ 3 ∷ 4 ∷ 5 ∷ 6 ∷ 7 ∷ 8 ∷ 9 ∷ 10 ∷ 11 ∷ 12 ∷ 17 ∷ [])

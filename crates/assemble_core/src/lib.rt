@@ -1,19 +1,11 @@
-//! The assembly of a mesh into its matrix, and the program over a store and sinks that are handed in.
+//! The program `assemble`: it reads a mesh and a problem, and writes the system of the problem, its summary, its pattern
+//! or the colours of its cells.
 #![tactic(auto)]
 
-mod answer;
-mod assembly;
-mod matrix_text;
-mod numbering;
+mod ask;
 mod program;
-mod refusal;
 mod run;
-mod sums;
-mod words;
+mod work;
 
-pub use answer::answer_is_unique;
 pub use program::run_program;
 pub use run::run_plain;
-
-#[cfg(test)]
-mod tests;

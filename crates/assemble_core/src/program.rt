@@ -10,7 +10,7 @@ use std::thread::Threads;
 
 /// Runs the program on the words of its command line, over files and the standard streams, and answers the status.
 /// Where a word isn't text the status is 2, where memory runs out for the words it is 12, and nothing is printed.
-pub fn run_program<R: Runtime + AllocGlobal + Threads + Streams>(rt: &R) -> u8
+pub fn run_program<R: Runtime + AllocGlobal + Threads + Sync + Streams>(rt: &R) -> u8
     ensures { is_status result ≡ true }
 {
     let alloc = rt.alloc();

@@ -5,3 +5,4 @@ pub mod NamedModes
 pub mod Places
 pub mod Rules
 pub mod Taking
+pub mod Within

@@ -7,3 +7,4 @@ pub mod Choice
 pub mod Words
 pub mod Reading
 pub mod Ordered
+pub mod Ranges

@@ -1,5 +1,6 @@
 ghost use Rattle.std.specs.Prelude.{◌≡◌, ℕ, List, map, string_bytes, IfSome, IfNone};
 ghost use Rattle.run_words.specs.Choice.{Choice, seen};
+ghost use Rattle.run_words.specs.Ranges.{IsWithinRanges};
 ghost use Rattle.run_words.specs.Words.{AskFor, AskForNothing};
 
 use crate::Options;
@@ -22,4 +23,9 @@ pub fn read_words(words: &[String]) -> Option<Options<'_>>
 /// Words ask for one thing at most.
 pub fn one_reading()
     ensures { (words : List (List ℕ)) (first second : Choice) → AskFor words first → AskFor words second → first ≡ second }
+{}
+
+/// What words ask for is within its ranges.
+pub fn choices_are_within()
+    ensures { (words : List (List ℕ)) (choice : Choice) → AskFor words choice → IsWithinRanges choice }
 {}

@@ -1,9 +1,0 @@
-pub mod NumberSteps
-pub mod PatternLaws
-pub mod SumSteps
-pub mod SystemLaws
-pub mod CellLaws
-pub mod FailureLaws
-pub mod TableLaws
-pub mod PrefixLaws
-pub mod AnswerLaws

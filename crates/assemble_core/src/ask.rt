@@ -1,0 +1,31 @@
+ghost use Rattle.std.specs.Prelude.{◌≡◌, map, string_bytes, IfSome, IfNone, Ok, Err};
+ghost use Rattle.run_words.specs.Choice.{seen};
+ghost use Rattle.run_words.specs.Ranges.{IsWithinRanges};
+ghost use Rattle.diagnostics.specs.declared.refusal.Refusal.TheVariants.{Words};
+ghost use Rattle.assemble_core.specs.Modes.{plain_modes};
+ghost use Rattle.assemble_core.specs.Answer.{Asked};
+
+use run_words::{Mode, Options, choices_are_within, read_words};
+
+/// What the words ask of a run that does not wait.
+pub(crate) fn plain_options(words: &[String]) -> Option<Options<'_>>
+    ensures asked { IfSome result (λ options. Asked plain_modes (map string_bytes words.now) (Ok (seen options))) }
+    ensures within { IfSome result (λ options. IsWithinRanges (seen options)) }
+    ensures refused { IfNone result (Asked plain_modes (map string_bytes words.now) (Err Words)) }
+{
+    choices_are_within();
+    match read_words(words) {
+        Some(options) if is_plain(options.mode) => Some(options),
+        _ => None,
+    }
+}
+
+// The modes of a run that does not wait.
+fn is_plain(mode: Mode) -> bool
+    ensures { result ≡ plain_modes mode }
+{
+    match mode {
+        Mode::Serial | Mode::Pattern | Mode::Colors => true,
+        Mode::Colored | Mode::Ordered => false,
+    }
+}

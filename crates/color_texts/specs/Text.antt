@@ -1,0 +1,21 @@
+-- The text of a colouring of cells.
+use Rattle.std.specs.Prelude.{ℕ, List, [], ◌∷◌, ◌++◌, codes, decimal, length, map, slice_index}
+use Rattle.std.specs.List.{range_with_len}
+use Rattle.matrix_market.specs.Texts.{line_of, text_of}
+use Rattle.conflict_coloring.specs.Coloring.{Coloring, color_count}
+
+-- how many colours there are
+abbrev pub count_line : ℕ → List ℕ
+count_line count = line_of (codes "colors" ∷ decimal count ∷ [])
+
+-- a cell, its zone and its colour
+abbrev pub cell_line : ℕ → ℕ → ℕ → List ℕ
+cell_line cell zone color = line_of (decimal cell ∷ decimal zone ∷ decimal color ∷ [])
+
+-- the lines of the cells, in their order
+abbrev pub cell_lines : Coloring → ℕ → List (List ℕ)
+cell_lines c cells = map (λ cell. cell_line cell (slice_index c.zones cell) (slice_index c.colors cell)) (range_with_len 0 cells)
+
+-- the text of a colouring
+unfoldable pub colors_text : Coloring → List ℕ
+colors_text c = text_of (count_line (color_count c) ∷ cell_lines c (length c.zones))

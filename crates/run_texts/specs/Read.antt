@@ -1,0 +1,72 @@
+-- How the reading of the texts of a source goes.
+use Rattle.std.specs.Prelude.{◌≡◌, ℕ, List, Bool, true, false, Some, None, IsSome, Ok, Err}
+use Rattle.std.specs.declared.option.Option.{Option}
+use Rattle.std.specs.declared.result.Result.{Result}
+use Rattle.fem_fixed.specs.Mesh.{Mesh}
+use Rattle.fem_text.specs.declared.counts.Counts.{Counts}
+use Rattle.fem_text.specs.Counts.{AllWell, EndsInFault}
+use Rattle.fem_text.specs.Outside.{Held}
+use Rattle.problem_read.specs.Entries.{ProblemParts}
+use Rattle.run_words.specs.Choice.{Source, texts, generated}
+use Rattle.diagnostics.specs.declared.refusal.Refusal.{Refusal}
+use Rattle.diagnostics.specs.declared.ending.Role.{Role}
+use Rattle.diagnostics.specs.declared.ending.Role.TheVariants as roles
+use Rattle.diagnostics.specs.declared.ending.Ending.{Ending}
+use Rattle.diagnostics.specs.declared.ending.Ending.TheVariants.{Refused, ReadFault, WriteFault, NoMemory}
+use Rattle.run_texts.specs.Texts.{Texts, StandsUnder, ProblemStands, TextFor, MeshOf, ProblemOf, AreTextsOf, ReadTexts}
+
+-- the text under a name
+abbrev pub TextUnder : Role → Option Held → List ℕ → Result (List ℕ) Refusal → Type 0
+TextUnder role holds name outcome = (known : Option (List ℕ)) × StandsUnder holds name known × TextFor role known outcome
+
+-- the mesh of the text under a name
+abbrev pub MeshUnder : Option Held → List ℕ → Result Mesh Refusal → Type 0
+MeshUnder holds name outcome = (known : Option (List ℕ)) × StandsUnder holds name known × MeshOf known outcome
+
+-- the problem of the text under a name, if there is a name
+abbrev pub ProblemUnder : Option Held → Option (List ℕ) → Result ProblemParts Refusal → Type 0
+ProblemUnder holds name outcome = (known : Option (List ℕ)) × ProblemStands holds name known × ProblemOf known outcome
+
+-- the mesh and the problem of a source
+abbrev pub SourceRead : Option Held → Source → Result (Mesh × ProblemParts) Refusal → Type 0
+SourceRead holds source outcome = (known : Texts) × AreTextsOf holds source known × ReadTexts known outcome
+
+-- a step that reads a text ends so
+abbrev pub EndsIn : Role → {X : Type 0} → (Result X Refusal → Type 0) → Ending → Type 0
+EndsIn role step (Refused refusal) = step (Err refusal)
+EndsIn role step (ReadFault other) = other ≡ role
+EndsIn role step (WriteFault output) = ⊥
+EndsIn role step NoMemory = Unit {0}
+
+-- the reading of the problem ends so; a read is made where there is a name
+abbrev pub EndsProblem : Option Held → Option (List ℕ) → Ending → Type 0
+EndsProblem holds name (Refused refusal) = ProblemUnder holds name (Err refusal)
+EndsProblem holds name (ReadFault other) = (other ≡ roles.Problem) × IsSome name
+EndsProblem holds name (WriteFault output) = ⊥
+EndsProblem holds name NoMemory = Unit {0}
+
+-- nothing is refused before this text is read
+abbrev pub GoesOnTo : Option Held → Source → Role → Type 0
+GoesOnTo holds (texts mesh problem) roles.Mesh = Unit {0}
+GoesOnTo holds (texts mesh (Some problem)) roles.Problem = (parts : Mesh) × MeshUnder holds mesh (Ok parts)
+GoesOnTo holds (texts mesh None) roles.Problem = ⊥
+GoesOnTo holds (generated n seed) role = ⊥
+
+-- the reading of a source ends so
+abbrev pub EndsReading : Option Held → Source → Ending → Type 0
+EndsReading holds source (Refused refusal) = SourceRead holds source (Err refusal)
+EndsReading holds source (ReadFault role) = GoesOnTo holds source role
+EndsReading holds source (WriteFault output) = ⊥
+EndsReading holds source NoMemory = Unit {0}
+
+abbrev pub is_read_fault : {X : Type 0} → Result X Ending → Bool
+is_read_fault (Ok value) = false
+is_read_fault (Err (Refused refusal)) = false
+is_read_fault (Err (ReadFault role)) = true
+is_read_fault (Err (WriteFault output)) = false
+is_read_fault (Err NoMemory) = false
+
+-- the last call failed, or none did
+abbrev pub CallsEnd : Bool → Counts → Counts → Type 0
+CallsEnd true before now = EndsInFault before now
+CallsEnd false before now = AllWell before now

@@ -1,0 +1,51 @@
+-- What the words ask for is within its ranges.
+use Rattle.std.proofs.Common.{◌≡◌, ◌<◌, ◌≤◌, ℕ, ◌*◌, List, true, false, Bool, arith, subst, sym}
+use Rattle.std.specs.Prelude.{Some, None, ◌&&◌, nat_le, nat_lt}
+use Rattle.std.specs.declared.option.Option.{Option}
+use Rattle.std.proofs.lemmas.Grind.{common_steps}
+use Rattle.fem_fixed.specs.Numbers.{digits_value}
+use Rattle.run_words.specs.declared.name.Name.{Name}
+use Rattle.run_words.specs.declared.name.Name.TheVariants as names
+use Rattle.run_words.specs.Settings.{Given, given_by}
+use Rattle.run_words.specs.Values.{is_number, is_number_within, is_in_set}
+use Rattle.run_words.specs.Choice.{Choice, Source, texts, generated, number_or, plan_of, source_of, chosen}
+use Rattle.run_words.specs.Words.{passes, AreInSets, AskFor}
+use Rattle.run_words.specs.Ranges.{IsOfSize, IsPlan, IsWithinRanges}
+
+number_within : (least greatest : ℕ) (word : List ℕ) → is_number_within least greatest word ≡ true → (least ≤ digits_value word) × (digits_value word ≤ greatest)
+number_within least greatest word is = grind (arith, common_steps)
+
+value_within : (default least greatest : ℕ) (value : Option (List ℕ)) → least ≤ default → default ≤ greatest → passes (is_number_within least greatest) value ≡ true →
+    (least ≤ number_or default value) × (number_or default value ≤ greatest)
+value_within default least greatest None low high is = (low, high)
+value_within default least greatest (Some word) low high is = number_within least greatest word is
+
+source_within : (mesh problem cells seed : Option (List ℕ)) → passes (is_in_set names.Generate) cells ≡ true → IsOfSize (source_of mesh problem cells seed)
+unfolding is_in_set
+source_within mesh problem None seed is = tt
+source_within mesh problem (Some cells) seed is = number_within 1 512 cells is
+
+plan_within : (given : Given) → AreInSets given → IsPlan (plan_of given)
+unfolding is_in_set
+plan_within given are =
+    let workers = value_within 4 1 64 (given.value names.Workers) (omega arith) (omega arith) (are names.Workers) in
+    let n : ℕ = number_or 4 (given.value names.Workers) in
+    let low : 1 ≤ n = workers.0 in
+    let high : n ≤ 64 = workers.1 in
+    record {
+      workers = workers;
+      queue = value_within (2 * n) 1 256 (given.value names.Queue) (omega arith) (omega arith) (are names.Queue);
+      chunk = value_within 8 1 64 (given.value names.Chunk) (omega arith) (omega arith) (are names.Chunk);
+      scratch = value_within n 1 64 (given.value names.Scratch) low high (are names.Scratch);
+    }
+
+pub choice_within : (words : List (List ℕ)) (choice : Choice) → AskFor words choice → IsWithinRanges choice
+unfolding is_in_set
+choice_within words choice asked =
+    let given : Given = given_by asked.settings in
+    let within : IsWithinRanges (chosen given) = record {
+      source = source_within (given.value names.Mesh) (given.value names.Problem) (given.value names.Generate) (given.value names.Seed) (asked.in_sets names.Generate);
+      plan = plan_within given asked.in_sets;
+      digits = (value_within 0 0 64 (given.value names.Digits) (omega arith) (omega arith) (asked.in_sets names.Digits)).1;
+    } in
+    subst IsWithinRanges (sym asked.choice_is) within
