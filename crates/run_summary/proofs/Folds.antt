@@ -1,5 +1,5 @@
 -- Sums that are made number after number are the sums of the whole.
-use Rattle.std.proofs.Common.{◌≡◌, ◌∙◌, refl, ℕ, ℤ, pos, ◌+ℤ◌, List, [], ◌∷◌, fold, map, true, false, cond}
+use Rattle.std.proofs.Common.{◌≡◌, ◌∙◌, refl, ℕ, ℤ, ◌+ℤ◌, List, [], ◌∷◌, fold, map, true, false, cond}
 use Rattle.std.specs.Prelude.{Bool, filter}
 use Rattle.std.specs.List.{enumerate_from}
 use Rattle.matrix_market.specs.Entries.{Triple, entries_of}

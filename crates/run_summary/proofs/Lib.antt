@@ -1,2 +1,4 @@
 pub mod Folds
 pub mod Small
+pub mod Passes
+pub mod Lines

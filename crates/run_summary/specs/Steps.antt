@@ -1,5 +1,5 @@
 -- The sums number after number, as they are made.
-use Rattle.std.specs.Prelude.{ℕ, ◌+◌, ◌*◌, ◌^◌, ◌≤◌, ℤ, pos, ◌+ℤ◌, unsigned_abs, if◌then◌else◌}
+use Rattle.std.specs.Prelude.{◌+◌, ◌*◌, ◌^◌, ◌≤◌, ℤ, pos, ◌+ℤ◌, unsigned_abs, if◌then◌else◌}
 use Rattle.matrix_market.specs.Entries.{Triple}
 use Rattle.run_summary.specs.Summary.{weighted, is_diagonal}
 use Rattle.run_summary.specs.declared.weighted.WeightedSum.{WeightedSum}

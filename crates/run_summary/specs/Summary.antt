@@ -44,13 +44,13 @@ number_line name digits = line_of (name ∷ digits ∷ [])
 -- the text of a summary, by the number of active cells, the rows of columns, the rows of values and the right side
 unfoldable pub summary_text : ℕ → List (List ℕ) → List (List ℤ) → List ℤ → List ℕ
 summary_text cells pattern values rhs = text_of (
-  number_line (codes "cells") (decimal cells)
-  ∷ number_line (codes "dofs") (decimal (length pattern))
-  ∷ number_line (codes "entries") (decimal (length (concat pattern)))
-  ∷ number_line (codes "diagonal") (signed_decimal (diagonal_sum pattern values))
-  ∷ number_line (codes "weighted") (signed_decimal (matrix_sum pattern values))
-  ∷ number_line (codes "rhs") (signed_decimal (vector_sum rhs))
-  ∷ [])
+    number_line (codes "cells") (decimal cells)
+    ∷ number_line (codes "dofs") (decimal (length pattern))
+    ∷ number_line (codes "entries") (decimal (length (concat pattern)))
+    ∷ number_line (codes "diagonal") (signed_decimal (diagonal_sum pattern values))
+    ∷ number_line (codes "weighted") (signed_decimal (matrix_sum pattern values))
+    ∷ number_line (codes "rhs") (signed_decimal (vector_sum rhs))
+    ∷ [])
 
 -- a number of a system is at most 2 ^ 80 in size
 abbrev pub IsSmall : ℤ → Type 0

@@ -8,5 +8,4 @@ mod sums;
 mod text;
 mod weighted;
 
-
 pub use text::summary_text;
