@@ -2,3 +2,4 @@ pub mod Folds
 pub mod Small
 pub mod Passes
 pub mod Lines
+pub mod Checked

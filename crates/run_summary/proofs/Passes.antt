@@ -57,7 +57,7 @@ row_end entries sums whole none all = sym (ap (fold with_entry sums) none) ∙ a
 columns_left : (pattern : List (List ℕ)) (i : ℕ) (columns : List ℕ) → i < length pattern → columns ≡ slice_index_or pattern i [] → drop i pattern ≡ columns ∷ drop (i + 1) pattern
 columns_left pattern i columns h e = drop_more pattern i [] h ∙ ap (λ row. row ∷ drop (i + 1) pattern) (sym e)
 
-row_of : {X : Type 0} (part : Row → X) (rows : List Row) (i : ℕ) (row : Row) → i < length rows → row ≡ slice_index_or rows i row → slice_index_or (map part rows) i (part row) ≡ part row
+pub row_of : {X : Type 0} (part : Row → X) (rows : List Row) (i : ℕ) (row : Row) → i < length rows → row ≡ slice_index_or rows i row → slice_index_or (map part rows) i (part row) ≡ part row
 row_of part rows i row h e = get_or-map part rows i row (part row) h ∙ ap part (sym e)
 
 row_left : {X : Type 0} (part : Row → X) (rows : List Row) (i : ℕ) (row : Row) → i < length rows → row ≡ slice_index_or rows i row →

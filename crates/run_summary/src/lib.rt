@@ -5,6 +5,8 @@
 #![tactic(auto)]
 
 mod sums;
+#[cfg(test)]
+mod tests;
 mod text;
 mod weighted;
 
