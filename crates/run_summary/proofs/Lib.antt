@@ -3,3 +3,4 @@ pub mod Small
 pub mod Passes
 pub mod Lines
 pub mod Checked
+pub mod SumsFit

@@ -4,10 +4,12 @@
 //! Values are whole numbers, in units of 2^-32.
 #![tactic(auto)]
 
+mod laws;
 mod sums;
 #[cfg(test)]
 mod tests;
 mod text;
 mod weighted;
 
+pub use laws::sums_are_summable;
 pub use text::summary_text;
