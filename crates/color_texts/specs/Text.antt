@@ -12,10 +12,14 @@ count_line count = line_of (codes "colors" ∷ decimal count ∷ [])
 abbrev pub cell_line : ℕ → ℕ → ℕ → List ℕ
 cell_line cell zone color = line_of (decimal cell ∷ decimal zone ∷ decimal color ∷ [])
 
--- the lines of the cells, in their order
+-- the lines of the first cells, in their order
 abbrev pub cell_lines : Coloring → ℕ → List (List ℕ)
 cell_lines c cells = map (λ cell. cell_line cell (slice_index c.zones cell) (slice_index c.colors cell)) (range_with_len 0 cells)
 
--- the text of a colouring
-unfoldable pub colors_text : Coloring → List ℕ
-colors_text c = text_of (count_line (color_count c) ∷ cell_lines c (length c.zones))
+-- the text up to the line of a cell
+unfoldable pub text_before : Coloring → ℕ → List ℕ
+text_before c cell = text_of (count_line (color_count c) ∷ cell_lines c cell)
+
+-- the text of a colouring: how many colours there are, and a line for each cell
+abbrev pub colors_text : Coloring → List ℕ
+colors_text c = text_before c (length c.zones)

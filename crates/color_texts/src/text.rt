@@ -10,6 +10,7 @@ use std::alloc::Global;
 
 /// The text of a colouring of this many cells: the line `colors N` with the number of colours, and then for each
 /// cell a line `cell zone color`. All are counted from 0.
+#[tactic(auto, using(crate::proofs::Lines::next_line, crate::proofs::Lines::first_line))]
 pub fn colors_text(alloc: Global, colors: &Colors, cells: u32) -> Result<Vec<u8>, NoMemory>
     requires zones { length colors.now.zones ≡ cells }
     requires colors { length colors.now.colors ≡ cells }
