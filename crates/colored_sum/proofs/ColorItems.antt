@@ -28,7 +28,7 @@ range_below n k d inside =
     let low : k < n = omega (arith, inside, length-range_with_len 0 n) in
     omega (arith, low, get_or-range_with_len 0 n k d low)
 
-count_lists : (s : MeshProblem) → length (lists s) ≡ length s.given.forest.cells
+pub count_lists : (s : MeshProblem) → length (lists s) ≡ length s.given.forest.cells
 count_lists s = length-map-range_with_len (written_rows s) 0 (length s.given.forest.cells)
 
 list_there : (s : MeshProblem) (a : ℕ) → a < length s.given.forest.cells → rows_of (lists s) a ≡ written_rows s a

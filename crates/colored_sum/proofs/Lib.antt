@@ -4,3 +4,5 @@ pub mod RoundRows
 pub mod Popped
 pub mod ColorItems
 pub mod ColorSums
+pub mod ColorRounds
+pub mod ColorCuts
