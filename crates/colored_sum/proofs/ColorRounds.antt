@@ -38,10 +38,6 @@ same_fits s t rows e fits = let P : MeshProblem → Type 0 = λ r. FitsRows (pat
 order_below : (s : MeshProblem) (c : Coloring) → IsColoring (lists s) c → All (λ d. d < length s.given.forest.cells) c.order
 order_below s c is = let P : ℕ → Type 0 = λ n. All (λ d. d < n) c.order in subst P (count_lists s) is.once.within
 
--- rows of zeros are the state before the first colour
-pub starts_none : (s : MeshProblem) (c : Coloring) → IsColoring (lists s) c → slice_index c.starts 0 ≡ 0
-starts_none s c is = is.starts.first
-
 -- a place of the loop over the colours
 pub is_color : (s : MeshProblem) (c : Coloring) (starts : List ℕ) (k : ℕ) → starts ≡ c.starts → k < length starts - 1 → k < color_count c
 is_color s c starts k e h = let n : length starts ≡ length c.starts = ap length e in omega (arith, h, n)

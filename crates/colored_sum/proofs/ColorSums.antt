@@ -40,20 +40,17 @@ zeros_clean (p ∷ ps) (suc i) = zeros_clean ps i
 pub zero_clean : (rows : List Row) (pattern : List (List ℕ)) → rows ≡ map zero_row pattern → AreUnmarked rows
 zero_clean rows pattern zeros = subst AreUnmarked (sym zeros) (zeros_clean pattern)
 
+take_none : (n : ℕ) → ◌≡◌ {A = List ℕ} (take n []) []
+take_none zero = refl
+take_none (suc n) = refl
+
+next_sum : (a m : ℕ) → suc a + m ≡ suc (a + m)
+next_sum a m = omega arith
+
 split : (xs : List ℕ) (a m : ℕ) → take (a + m) xs ≡ take a xs ++ take m (drop a xs)
 split xs zero m = ap (λ n. take n xs) (let e : 0 + m ≡ m = omega arith in e)
-split [] (suc a) m = ap (λ n. take n []) (next a m) ∙ none m
-  where
-    next : (a m : ℕ) → suc a + m ≡ suc (a + m)
-    next a m = omega arith
-
-    none : (m : ℕ) → [] ≡ take m []
-    none zero = refl
-    none (suc m) = refl
-split (x ∷ xs) (suc a) m = ap (λ n. take n (x ∷ xs)) (next a m) ∙ ap (λ ys. x ∷ ys) (split xs a m)
-  where
-    next : (a m : ℕ) → suc a + m ≡ suc (a + m)
-    next a m = omega arith
+split [] (suc a) m = take_none (suc a + m) ∙ sym (take_none m)
+split (x ∷ xs) (suc a) m = ap (λ n. take n (x ∷ xs)) (next_sum a m) ∙ ap (λ ys. x ∷ ys) (split xs a m)
 
 joined : (xs : List ℕ) (a b : ℕ) → a ≤ b → take b xs ≡ take a xs ++ part xs a b
 joined xs a b le = ap (λ n. take n xs) (let e : b ≡ a + (b - a) = omega (arith, le) in e) ∙ split xs a (b - a)

@@ -5,4 +5,3 @@ pub mod Popped
 pub mod ColorItems
 pub mod ColorSums
 pub mod ColorRounds
-pub mod ColorCuts

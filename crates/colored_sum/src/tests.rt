@@ -211,7 +211,10 @@ fn the_first_failing_color_tells_its_first_cell(rt: HostRuntime) -> Result<(), F
     ];
     let setup = set_up(&rt, &below, &above)?;
     let serial = assemble_serial(rt.alloc(), &setup, 0).err();
-    assert_eq!(rt; serial, Some(AssembleFault::Local(1, LocalFault::Distorted)));
+    assert_eq!(rt;
+        serial,
+        Some(AssembleFault::Local(1, LocalFault::Distorted))
+    );
     for workers in [1, 3] {
         let found = colored(&rt, &setup, &plan(workers, 0), &OpenGate)?.err();
         assert_eq!(rt; found, Some(AssembleFault::Local(2, LocalFault::Distorted)));

@@ -12,10 +12,10 @@ loop-hand-preserved c =
       over = over_more (λ h. h.pass) c.loop-hand.hands.items c.pop.new.self.items c.in-Some.hand c.loop-hand.passes.items c.push_reserved.new.self.items c.in-Some.ensures.items c.push_reserved.ensures.items was.over;
       count = omega (arith, was.count, c.in-Some.ensures.cases, c.push_reserved.ensures.len);
       room = c.push_reserved.ensures.capacity ∙ was.room;
-      idle = idle_more c.loop-hand.crew.pool.table c.loop-hand.crew.seats.items c.push_reserved-2.new.self.items c.in-Some.hand.scratch c.push_reserved-2.ensures.items was.idle p.1.of_pool p.1.empty;
-      seats = omega (arith, was.seats, c.push_reserved.ensures.len, c.push_reserved-2.ensures.len);
-      copies = omega (arith, was.copies, c.push_reserved.ensures.len, c.push_reserved-3.ensures.len);
+      idle = idle_more c.loop-hand.crew.pool.table c.loop-hand.crew.seats.items c.push_reserved-in-Some.new.self.items c.in-Some.hand.scratch c.push_reserved-in-Some.ensures.items was.idle p.1.of_pool p.1.empty;
+      seats = omega (arith, was.seats, c.push_reserved.ensures.len, c.push_reserved-in-Some.ensures.len);
+      copies = omega (arith, was.copies, c.push_reserved.ensures.len, c.push_reserved-in-Some-2.ensures.len);
       workers = was.workers;
-      seat_room = c.push_reserved-2.ensures.capacity ∙ was.seat_room;
-      copy_room = c.push_reserved-3.ensures.capacity ∙ was.copy_room;
+      seat_room = c.push_reserved-in-Some.ensures.capacity ∙ was.seat_room;
+      copy_room = c.push_reserved-in-Some-2.ensures.capacity ∙ was.copy_room;
     }
