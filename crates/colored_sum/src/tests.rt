@@ -31,19 +31,56 @@ const CELLS_ONLY: Flags = Flags {
     cells_after_faces: false,
 };
 
-/// A strip of cells: its lower points, and the upper ones in the same order.
-fn strip<R: Abort + AllocGlobal>(rt: &R, below: &[Point], above: &[Point]) -> Result<Forest, Fail> {
-    assert!(rt; 1 < below.len() && below.len() < 50 && above.len() < 50);
-    let mut points = below.to_vec(rt.alloc())?;
-    points.extend_from_slice(above)?;
-    let mut quads = Vec::new(rt.alloc());
-    let width = below.len() as u32;
-    for k in 1..width {
-        quads.push(QuadSpec {
-            material: 1,
-            corners: [k - 1, k, width + k, width + k - 1],
-        })?;
+const TWO: [Point; 6] = [
+    Point { x: 0, y: 0 },
+    Point { x: ONE, y: 0 },
+    Point { x: 2 * ONE, y: 0 },
+    Point { x: 0, y: ONE },
+    Point { x: ONE, y: ONE },
+    Point { x: 2 * ONE, y: ONE },
+];
+
+const FOUR: [Point; 10] = [
+    Point { x: 0, y: 0 },
+    Point { x: ONE, y: 0 },
+    Point { x: 2 * ONE, y: 0 },
+    Point { x: 3 * ONE, y: 0 },
+    Point { x: 4 * ONE, y: 0 },
+    Point { x: 0, y: ONE },
+    Point { x: ONE, y: ONE },
+    Point { x: 2 * ONE, y: ONE },
+    Point { x: 3 * ONE, y: ONE },
+    Point { x: 4 * ONE, y: ONE },
+];
+
+// The second and the third cell are triangles of a tick.
+const TICKS: [Point; 10] = [
+    Point { x: 0, y: 0 },
+    Point { x: ONE, y: 0 },
+    Point { x: ONE + 1, y: 0 },
+    Point { x: ONE + 2, y: 0 },
+    Point { x: 2 * ONE, y: 0 },
+    Point { x: 0, y: ONE },
+    Point { x: ONE, y: 1 },
+    Point { x: ONE, y: 1 },
+    Point { x: ONE, y: 1 },
+    Point { x: 2 * ONE, y: ONE },
+];
+
+fn quad(corners: [u32; 4]) -> QuadSpec {
+    QuadSpec {
+        material: 1,
+        corners,
     }
+}
+
+fn forest<R: Abort + AllocGlobal>(
+    rt: &R,
+    points: &[Point],
+    quads: &[QuadSpec],
+) -> Result<Forest, Fail> {
+    let points = points.to_vec(rt.alloc())?;
+    let quads = quads.to_vec(rt.alloc())?;
     assert!(rt; are_within_reach(&points));
     assert!(rt; have_corners(&quads, points.len()));
     assert!(rt; points.len() < 100 && quads.len() < 100);
@@ -82,10 +119,10 @@ fn free<R: Abort + AllocGlobal>(rt: &R, dofs: &Dofs) -> Result<Closed, Fail>
 
 fn set_up<R: Abort + Threads + Sync + AllocGlobal>(
     rt: &R,
-    below: &[Point],
-    above: &[Point],
+    points: &[Point],
+    quads: &[QuadSpec],
 ) -> Result<Setup, Fail> {
-    let forest = strip(rt, below, above)?;
+    let forest = forest(rt, points, quads)?;
     let dofs = match Dofs::number(rt.alloc(), &forest) {
         Ok(dofs) => dofs,
         Err(_) => return Err("dofs")?,
@@ -98,16 +135,22 @@ fn set_up<R: Abort + Threads + Sync + AllocGlobal>(
     }
 }
 
-/// Unit squares in a row.
-fn squares<R: Abort + Threads + Sync + AllocGlobal>(rt: &R, count: i64) -> Result<Setup, Fail> {
-    assert!(rt; 0 < count && count < 10);
-    let mut below = Vec::new(rt.alloc());
-    let mut above = Vec::new(rt.alloc());
-    for k in 0..count + 1 {
-        below.push(Point { x: k * ONE, y: 0 })?;
-        above.push(Point { x: k * ONE, y: ONE })?;
-    }
-    set_up(rt, &below, &above)
+fn strip_of_two<R: Abort + Threads + Sync + AllocGlobal>(rt: &R) -> Result<Setup, Fail> {
+    set_up(rt, &TWO, &[quad([0, 1, 4, 3]), quad([1, 2, 5, 4])])
+}
+
+/// Four cells in a row, with the colours 0, 1, 0, 1.
+fn strip_of_four<R: Abort + Threads + Sync + AllocGlobal>(
+    rt: &R,
+    points: &[Point],
+) -> Result<Setup, Fail> {
+    let quads = [
+        quad([0, 1, 6, 5]),
+        quad([1, 2, 7, 6]),
+        quad([2, 3, 8, 7]),
+        quad([3, 4, 9, 8]),
+    ];
+    set_up(rt, points, &quads)
 }
 
 fn plan(workers: u32, digits: u32) -> Plan
@@ -171,53 +214,66 @@ fn assert_as_serial<R: Abort + Threads + Sync + AllocGlobal>(
 }
 
 #[test]
-fn colors_have_the_serial_rows(rt: HostRuntime) -> Result<(), Fail> {
-    for count in [2, 4] {
-        let setup = squares(&rt, count)?;
-        assert_as_serial(&rt, &setup, 1)?;
-        assert_as_serial(&rt, &setup, 3)?;
-    }
+fn two_colors_have_the_serial_rows(rt: HostRuntime) -> Result<(), Fail> {
+    let setup = strip_of_two(&rt)?;
+    assert_as_serial(&rt, &setup, 1)?;
+    assert_as_serial(&rt, &setup, 3)?;
     Ok(())
 }
 
-// The colours of a strip are 0, 1, 0, 1.
+#[test]
+fn cells_of_a_color_have_the_serial_rows(rt: HostRuntime) -> Result<(), Fail> {
+    let setup = strip_of_four(&rt, &FOUR)?;
+    assert_as_serial(&rt, &setup, 1)?;
+    assert_as_serial(&rt, &setup, 3)?;
+    Ok(())
+}
+
+/// Whether item 0 waited for item 1 in vain, as a gate with this many turns tells.
+fn waits_in_vain<R: Abort + Threads + Sync + AllocGlobal>(
+    rt: &R,
+    setup: &Setup,
+    turns: u64,
+) -> Result<bool, Fail> {
+    let gate = HoldGate::new(turns);
+    match colored(rt, setup, &plan(3, 0), &gate)? {
+        Ok(_) => Ok(gate.gave_up()),
+        Err(_) => Err("coloured rows")?,
+    }
+}
+
 #[test]
 fn items_have_their_numbers_in_the_order_of_all_cells(rt: HostRuntime) -> Result<(), Fail> {
-    let apart = HoldGate::new(1_000_000_000);
-    let _rows = colored(&rt, &squares(&rt, 3)?, &plan(3, 0), &apart)?;
-    assert!(rt; !apart.gave_up());
-    let behind = HoldGate::new(100);
-    let _rows = colored(&rt, &squares(&rt, 2)?, &plan(3, 0), &behind)?;
-    assert!(rt; behind.gave_up());
+    let four = strip_of_four(&rt, &FOUR)?;
+    let two = strip_of_two(&rt)?;
+    assert!(rt; !waits_in_vain(&rt, &four, 1_000_000_000)?);
+    assert!(rt; waits_in_vain(&rt, &two, 100)?);
     Ok(())
 }
 
-// Four cells, of which the second and the third are triangles of a tick, with the colours 0, 1, 0, 1.
+fn assert_fails_at<R: Abort + Threads + Sync + AllocGlobal>(
+    rt: &R,
+    setup: &Setup,
+    workers: u32,
+    fault: AssembleFault,
+) -> Result<(), Fail>
+    requires { (0 < workers) × (workers ≤ 64) }
+{
+    let found = colored(rt, setup, &plan(workers, 0), &OpenGate)?.err();
+    assert_eq!(rt; found, Some(fault));
+    Ok(())
+}
+
 #[test]
 fn the_first_failing_color_tells_its_first_cell(rt: HostRuntime) -> Result<(), Fail> {
-    let below = [
-        Point { x: 0, y: 0 },
-        Point { x: ONE, y: 0 },
-        Point { x: ONE + 1, y: 0 },
-        Point { x: ONE + 2, y: 0 },
-        Point { x: 2 * ONE, y: 0 },
-    ];
-    let above = [
-        Point { x: 0, y: ONE },
-        Point { x: ONE, y: 1 },
-        Point { x: ONE, y: 1 },
-        Point { x: ONE, y: 1 },
-        Point { x: 2 * ONE, y: ONE },
-    ];
-    let setup = set_up(&rt, &below, &above)?;
+    let setup = strip_of_four(&rt, &TICKS)?;
     let serial = assemble_serial(rt.alloc(), &setup, 0).err();
     assert_eq!(rt;
         serial,
         Some(AssembleFault::Local(1, LocalFault::Distorted))
     );
-    for workers in [1, 3] {
-        let found = colored(&rt, &setup, &plan(workers, 0), &OpenGate)?.err();
-        assert_eq!(rt; found, Some(AssembleFault::Local(2, LocalFault::Distorted)));
-    }
+    let fault = AssembleFault::Local(2, LocalFault::Distorted);
+    assert_fails_at(&rt, &setup, 1, fault)?;
+    assert_fails_at(&rt, &setup, 3, fault)?;
     Ok(())
 }
