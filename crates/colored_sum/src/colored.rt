@@ -1,0 +1,107 @@
+//! The serial sum in the order of the colours.
+ghost use Rattle.std.specs.Prelude.{◌≡◌, ◌+◌, ◌<◌, ◌≤◌, ◌^◌, IfOk, IfErr, OnOk, Ok, map, length, slice_index};
+ghost use Rattle.conflict_coloring.specs.Coloring.{IsColoring, AreStarts, color_count};
+ghost use Rattle.conflict_coloring.specs.Colours.{coloured};
+ghost use Rattle.conflict_coloring.specs.Cut.{part};
+ghost use Rattle.serial_sum.specs.Marks.{AreItems, IsRound};
+ghost use Rattle.serial_sum.specs.Rows.{FitsRows};
+ghost use Rattle.serial_sum.specs.SerialSum.{SumIs};
+ghost use Rattle.serial_sum.specs.Steps.{FaultIs};
+ghost use Rattle.mesh_loop.specs.Plans.{IsWithinRanges};
+ghost use Rattle.mesh_loop.specs.Setup.{cells_of, pattern_of, written_rows};
+ghost use Rattle.mesh_loop.specs.Sum.{parts_of};
+ghost use Rattle.colored_sum.specs.Crews.{IsAtHome};
+ghost use Rattle.colored_sum.specs.Rounds.{items_of};
+
+use crate::crew::{Crew, hand_out, take_back, work};
+use crate::row_job::MatrixRowJob;
+use colored_copier::Round;
+use conflict_coloring::Colors;
+use fem_fixed::NoMemory;
+use mesh_loop::{AssembleFault, Plan, Setup};
+use scratch_pool::Gate;
+use serial_sum::first_failure;
+use sparsity::Rows;
+use std::alloc::Global;
+use std::thread::Threads;
+
+/// The serial sum in the order of the colours, by several workers: one round a colour, in which each worker claims
+/// cell after cell and writes its rows in place. After a colour with a cell that fails no later colour runs.
+///
+/// Item k of a colour has at the gate the number that it has in the order of all cells. Threads that can't be
+/// started leave their work to the caller. The scratch objects and copy objects are made once and serve all rounds;
+/// nothing is allocated for an item.
+///
+/// # Errors
+///
+/// `Local` and `Sum` where the sum fails so, at its first cell that fails.
+pub fn assemble_colored<G: Gate + Sync, R: Threads + Sync>(
+    rt: &R,
+    alloc: Global,
+    setup: &Setup,
+    colors: &Colors,
+    plan: &Plan,
+    gate: &G,
+) -> Result<Rows, AssembleFault>
+    requires plan { IsWithinRanges plan.now }
+    requires colors { IsColoring (map (written_rows setup.now) (cells_of setup.now)) colors.now }
+    ensures ok { IfOk result (λ rows. SumIs plan.now.digits (pattern_of setup.now) (parts_of setup.now colors.now.order) (Ok rows)) }
+    ensures fails { IfErr result (FaultIs plan.now.digits (pattern_of setup.now) (parts_of setup.now colors.now.order)) }
+{
+    setup.cells_are_written();
+    let mut rows = Rows::zero(alloc, setup.pattern())?;
+    let mut crew = Crew::new(alloc, plan)?;
+    let starts = colors.starts();
+    for color in 0..starts.len() - 1 {
+        let job = MatrixRowJob::new(setup, cells_of_color(colors, color), plan.digits);
+        rows = add_color(rt, alloc, &job, rows, &mut crew, starts[color], gate)?;
+        if let Some(failure) = first_failure(&rows) {
+            return Err(AssembleFault::from(failure));
+        }
+    }
+    Ok(rows)
+}
+
+/// The cells of a colour, rising.
+fn cells_of_color(colors: &Colors, color: usize) -> &[u32]
+    requires starts { AreStarts colors.now.colors colors.now.order colors.now.starts (color_count colors.now) }
+    requires color { color < color_count colors.now }
+    ensures cells { result.now ≡ coloured colors.now.colors color }
+    ensures part { result.now ≡ part colors.now.order (slice_index colors.now.starts color) (slice_index colors.now.starts (color + 1)) }
+    ensures few { length result.now ≤ 2 ^ 32 }
+{
+    let starts = colors.starts();
+    let start = starts[color] as usize;
+    let end = starts[color + 1] as usize;
+    &colors.order()[start..end]
+}
+
+/// Adds the cells of a colour to the rows, as one round. A cell that fails marks its rows.
+fn add_color<G: Gate + Sync, R: Threads + Sync>(
+    rt: &R,
+    alloc: Global,
+    job: &MatrixRowJob<'_>,
+    rows: Rows,
+    crew: &mut Crew,
+    first: u32,
+    gate: &G,
+) -> Result<Rows, NoMemory>
+    requires crew { IsAtHome crew.old }
+    requires items { AreItems (pattern_of job.now.setup.now) (items_of job.now.setup.now job.now.cells.now) }
+    requires few { length job.now.cells.now ≤ 2 ^ 32 }
+    requires fits { FitsRows (pattern_of job.now.setup.now) rows }
+    ensures round { IfOk result (IsRound job.now.digits (pattern_of job.now.setup.now) (items_of job.now.setup.now job.now.cells.now) rows) }
+    ensures fits { IfOk result (FitsRows (pattern_of job.now.setup.now)) }
+    ensures crew { OnOk result (IsAtHome crew.new) }
+{
+    let mut hands = Vec::with_capacity(alloc, crew.workers as usize)?;
+    let Ok((round, mut passes)) = Round::new(alloc, job, rows.into_numbered(), crew.workers) else {
+        hands.destroy_empty();
+        return Err(NoMemory);
+    };
+    hand_out(&round, crew, &mut passes, &mut hands);
+    work(rt, job, &round, &crew.pool, &mut hands, first as u64, gate);
+    take_back(&round, crew, &mut hands, &mut passes);
+    hands.destroy_empty();
+    Ok(Rows::from_numbered(round.close(passes)))
+}
