@@ -49,3 +49,7 @@ abbrev pub Summed : Mode → ℕ → MeshProblem → Result (Option (List Row)) 
 Summed mode digits s (Ok (Some rows)) = SummedBy mode digits s (Ok rows)
 Summed mode digits s (Ok None) = HasNoSums mode
 Summed mode digits s (Err refusal) = SummedBy mode digits s (Err refusal)
+
+-- these are sums of the system, with some number of digits
+abbrev pub IsOfSums : Mode → MeshProblem → Option (List Row) → Type 0
+IsOfSums mode s rows = (digits : ℕ) × Summed mode digits s (Ok rows)

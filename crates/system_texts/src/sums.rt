@@ -1,30 +1,102 @@
-ghost use Rattle.std.specs.Prelude.{◌≡◌, ◌≤◌, Ok, None, Some, IfOk, IfErr};
-ghost use Rattle.std.specs.Option.{option_map};
-ghost use Rattle.run_words.specs.declared.options.Mode.TheVariants as modes;
+ghost use Rattle.std.specs.Prelude.{◌≡◌, ◌≤◌, Ok, IfOk, IfErr};
+ghost use Rattle.mesh_loop.specs.Plans.{IsWithinRanges as IsPlanWithin};
+ghost use Rattle.run_words.specs.declared.options.Mode.TheVariants.{Colored, Serial};
+ghost use Rattle.run_words.specs.Choice.{seen};
+ghost use Rattle.run_words.specs.Ranges.{IsWithinRanges};
 ghost use Rattle.diagnostics.specs.Stages.{EndsIn};
-ghost use Rattle.system_texts.specs.Sums.{Summed};
+ghost use Rattle.system_texts.specs.Sums.{IsColoringOf, SummedBy, Summed};
 
+use colored_sum::assemble_colored;
+use conflict_coloring::{Colors, color};
 use diagnostics::Ending;
-use mesh_loop::{Setup, assemble_serial};
-use run_words::Mode;
+use fem_fixed::NoMemory;
+use mesh_loop::{Plan, Setup, assemble_serial, conflicts};
+use run_words::{Mode, Options};
+use scratch_pool::Gate;
 use sparsity::Rows;
 use std::alloc::Global;
+use std::thread::Threads;
 
-/// The rows of the sums of a system, in the modes that have sums.
+/// The rows of the sums of a system, where the mode has sums: by a loop over the cells, or colour by colour by
+/// several workers. The mode `ordered` has the order of the cells, as `serial` has.
 ///
 /// # Errors
 ///
 /// The first cell that fails, in the order of the mode, with its local form's fault or its least row.
-pub fn sum_rows(alloc: Global, mode: Mode, digits: u32, setup: &Setup) -> Result<Option<Rows>, Ending>
-    requires digits { digits ≤ 64 }
-    ensures ok { IfOk result (λ rows. Summed mode digits setup.now (Ok rows)) }
-    ensures refused { IfErr result (EndsIn (Summed mode digits setup.now)) }
+pub fn sum_rows<G: Gate + Sync, R: Threads + Sync>(
+    rt: &R,
+    alloc: Global,
+    options: &Options<'_>,
+    setup: &Setup,
+    gate: &G,
+) -> Result<Option<Rows>, Ending>
+    requires within { IsWithinRanges (seen options.now) }
+    ensures ok { IfOk result (λ rows. Summed options.now.mode options.now.digits setup.now (Ok rows)) }
+    ensures refused { IfErr result (EndsIn (Summed options.now.mode options.now.digits setup.now)) }
 {
-    match mode {
+    match options.mode {
         Mode::Pattern | Mode::Colors => Ok(None),
-        _ => match assemble_serial(alloc, setup, digits) {
+        Mode::Serial | Mode::Ordered => match serial_rows(alloc, options.digits, setup) {
             Ok(rows) => Ok(Some(rows)),
-            Err(fault) => Err(Ending::from(fault)),
+            Err(ending) => Err(ending),
         },
+        Mode::Colored => match colored_rows(rt, alloc, &plan_of(options), setup, gate) {
+            Ok(rows) => Ok(Some(rows)),
+            Err(ending) => Err(ending),
+        },
+    }
+}
+
+/// How the workers go.
+pub fn plan_of(options: &Options<'_>) -> Plan
+    requires within { IsWithinRanges (seen options.now) }
+    ensures within { IsPlanWithin result }
+    ensures digits { result.digits ≡ options.now.digits }
+{
+    Plan {
+        workers: options.plan.workers,
+        queue: options.plan.queue,
+        chunk: options.plan.chunk,
+        scratch: options.plan.scratch,
+        digits: options.digits,
+    }
+}
+
+/// A colouring of the cells, in which cells that write one row conflict.
+pub(crate) fn colors_of(alloc: Global, setup: &Setup) -> Result<Colors, NoMemory>
+    ensures { IfOk result (IsColoringOf setup.now) }
+{
+    let conflicts = conflicts(alloc, setup)?;
+    color(alloc, &conflicts)
+}
+
+// The rows of the sum in the order of the cells.
+fn serial_rows(alloc: Global, digits: u32, setup: &Setup) -> Result<Rows, Ending>
+    requires digits { digits ≤ 64 }
+    ensures ok { IfOk result (λ rows. SummedBy Serial digits setup.now (Ok rows)) }
+    ensures refused { IfErr result (EndsIn (SummedBy Serial digits setup.now)) }
+{
+    match assemble_serial(alloc, setup, digits) {
+        Ok(rows) => Ok(rows),
+        Err(fault) => Err(Ending::from(fault)),
+    }
+}
+
+// The rows of the sum in the order of the colours.
+fn colored_rows<G: Gate + Sync, R: Threads + Sync>(
+    rt: &R,
+    alloc: Global,
+    plan: &Plan,
+    setup: &Setup,
+    gate: &G,
+) -> Result<Rows, Ending>
+    requires plan { IsPlanWithin plan.now }
+    ensures ok { IfOk result (λ rows. SummedBy Colored plan.now.digits setup.now (Ok rows)) }
+    ensures refused { IfErr result (EndsIn (SummedBy Colored plan.now.digits setup.now)) }
+{
+    let colors = colors_of(alloc, setup)?;
+    match assemble_colored(rt, alloc, setup, &colors, plan, gate) {
+        Ok(rows) => Ok(rows),
+        Err(fault) => Err(Ending::from(fault)),
     }
 }

@@ -1,0 +1,2 @@
+pub mod Colorings
+pub mod Small
