@@ -1,0 +1,4 @@
+use Rattle.system_laws.proofs.laws.a_mesh_has_a_set_up.Goals as goal
+
+pub returns : goal.returns
+returns c = ?

@@ -1,0 +1,5 @@
+use Rattle.system_laws.proofs.Visits as visits
+use Rattle.system_laws.proofs.laws.meshes_have_one_system.Goals as goal
+
+pub returns : goal.returns
+returns c = ?
