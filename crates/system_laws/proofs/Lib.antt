@@ -1,2 +1,4 @@
 pub mod Forests
 pub mod Visits
+pub mod System
+pub mod Steps
