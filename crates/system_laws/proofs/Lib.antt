@@ -2,3 +2,4 @@ pub mod Forests
 pub mod Visits
 pub mod System
 pub mod Steps
+pub mod Lines
