@@ -1,5 +1,7 @@
 pub mod Forests
 pub mod Visits
-pub mod System
-pub mod Steps
+pub mod OneTable
 pub mod Lines
+pub mod Steps
+pub mod System
+pub mod One

@@ -12,7 +12,6 @@ use Rattle.corner_names.specs.Cells.{vertex, mid, face_start, face_end}
 use Rattle.hanging_refine.specs.Coarse.{corner_at}
 use Rattle.hanging_refine.specs.Refined.{RefinedMesh, cell_in}
 use Rattle.hanging_refine.specs.Numbered.{corner_name}
-use Rattle.hanging_refine.specs.Grown.{IsGrown}
 use Rattle.affine_constraints.specs.Lines.{AffineLine, Lines, lines_in}
 use Rattle.dof_numbers.specs.Dofs.{same_name, cell_names, corner_list, name_dof, corner_dof}
 use Rattle.dof_numbers.specs.Hanging.{IsHangingName, IsHanging, half, half_line}
@@ -27,12 +26,12 @@ use Rattle.constrained_mesh.specs.MeshLines.{Table, dof_count, AreMeshLines}
 use Rattle.constrained_mesh.specs.Nodes.{dof_at, dof_of_id}
 use Rattle.constrained_mesh.specs.Ties.{with_ties}
 use Rattle.constrained_mesh.specs.Constrained.{Answer, ClosesOrFails, IsConstrained}
-use Rattle.constrained_mesh.proofs.AnswerLaws.{one}
 use Rattle.diagnostics.specs.declared.refusal.Refusal.{Refusal}
 use Rattle.diagnostics.specs.declared.ending.Ending.TheVariants.{Refused}
 use Rattle.diagnostics.specs.Layers.{of_constraints}
 use Rattle.system_setup.specs.SetUp.{nodes_of, LinesFor}
 use Rattle.system_laws.proofs.Forests.{IsSameForest, same_count, same_back, by_cells, carry}
+use Rattle.system_laws.proofs.OneTable.{same_answer}
 use Rattle.system_laws.proofs.Visits.{same_outer, same_id, same_faces}
 
 pub same_corners : (a b : RefinedMesh) → IsSameForest a b → corner_list a ≡ corner_list b
@@ -131,8 +130,8 @@ same_constrained a b s ids problem answer w =
     record { lines = w.lines; of_mesh = same_mesh_lines a b s problem w.lines w.of_mesh; outcome = subst P (same_node_dofs a b s ids) w.outcome }
 
 -- one answer over both meshes
-one_answer : (a b : RefinedMesh) → IsSameForest a b → IsGrown b → (ids : List ℕ) (problem : ProblemParts) (x y : Answer) → IsConstrained (nodes_of ids a) problem x → IsConstrained (nodes_of ids b) problem y → x ≡ y
-one_answer a b s g ids problem x y w v = one (nodes_of ids b) problem g x y (same_constrained a b s ids problem x w) v
+one_answer : (a b : RefinedMesh) → IsSameForest a b → (ids : List ℕ) (problem : ProblemParts) (x y : Answer) → IsConstrained (nodes_of ids a) problem x → IsConstrained (nodes_of ids b) problem y → x ≡ y
+one_answer a b s ids problem x y w v = same_answer (nodes_of ids b) problem x y (same_constrained a b s ids problem x w) v
 
 same_ok : (x y : Lines) → (let r : Answer = Ok x in r) ≡ Ok y → x ≡ y
 same_ok x y e = cc
@@ -147,11 +146,11 @@ same_told : (x y : ConstraintFault) (r q : Refusal) → of_constraints x ≡ Ref
 same_told x y r q e f s = let t : Refused r ≡ Refused q = sym e ∙ ap of_constraints s ∙ f in cc
 
 -- one table of closed lines, or one refusal, over both meshes
-pub same_lines : (a b : RefinedMesh) → IsSameForest a b → IsGrown b → (ids : List ℕ) (problem : ProblemParts) (x y : Result (List (Option AffineLine)) Refusal) → LinesFor ids problem a x → LinesFor ids problem b y → x ≡ y
-same_lines a b s g ids problem (Ok t) (Ok u) w v =
-    let e : lines_in t ≡ lines_in u = same_ok (lines_in t) (lines_in u) (one_answer a b s g ids problem (Ok (lines_in t)) (Ok (lines_in u)) w.1 v.1) in
+pub same_lines : (a b : RefinedMesh) → IsSameForest a b → (ids : List ℕ) (problem : ProblemParts) (x y : Result (List (Option AffineLine)) Refusal) → LinesFor ids problem a x → LinesFor ids problem b y → x ≡ y
+same_lines a b s ids problem (Ok t) (Ok u) w v =
+    let e : lines_in t ≡ lines_in u = same_ok (lines_in t) (lines_in u) (one_answer a b s ids problem (Ok (lines_in t)) (Ok (lines_in u)) w.1 v.1) in
     ap Ok (ext_get_or None t u (w.0 ∙ same_size a b s ∙ sym v.0) (λ dof h. ap (λ lines. lines dof) e))
-same_lines a b s g ids problem (Ok t) (Err q) w v = absurd (not_ok (lines_in t) v.0 (one_answer a b s g ids problem (Ok (lines_in t)) (Err v.0) w.1 v.1))
-same_lines a b s g ids problem (Err r) (Ok u) w v = absurd (not_ok (lines_in u) w.0 (sym (one_answer a b s g ids problem (Err w.0) (Ok (lines_in u)) w.1 v.1)))
-same_lines a b s g ids problem (Err r) (Err q) w v =
-    ap Err (same_told w.0 v.0 r q w.2 v.2 (same_err w.0 v.0 (one_answer a b s g ids problem (Err w.0) (Err v.0) w.1 v.1)))
+same_lines a b s ids problem (Ok t) (Err q) w v = absurd (not_ok (lines_in t) v.0 (one_answer a b s ids problem (Ok (lines_in t)) (Err v.0) w.1 v.1))
+same_lines a b s ids problem (Err r) (Ok u) w v = absurd (not_ok (lines_in u) w.0 (sym (one_answer a b s ids problem (Err w.0) (Ok (lines_in u)) w.1 v.1)))
+same_lines a b s ids problem (Err r) (Err q) w v =
+    ap Err (same_told w.0 v.0 r q w.2 v.2 (same_err w.0 v.0 (one_answer a b s ids problem (Err w.0) (Err v.0) w.1 v.1)))
