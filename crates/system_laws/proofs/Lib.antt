@@ -5,3 +5,5 @@ pub mod Lines
 pub mod Steps
 pub mod System
 pub mod One
+pub mod Coarse
+pub mod Grown
