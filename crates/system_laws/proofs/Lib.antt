@@ -7,3 +7,6 @@ pub mod System
 pub mod One
 pub mod Coarse
 pub mod Grown
+pub mod Search
+pub mod Closures
+pub mod StepSets
