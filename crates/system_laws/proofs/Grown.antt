@@ -19,7 +19,7 @@ use Rattle.hanging_refine.proofs.Stepped.{among, among_from, among_to, step_by_p
 use Rattle.constrained_mesh.specs.Steps.{Outcome, StepThen, refused, refined, RefinesBy}
 use Rattle.system_laws.proofs.Forests.{level_at}
 
-coarse_names : (mesh : CoarseMesh) (n : ℕ) → map named (unrefined_cells mesh n) ≡ coarse_cells n
+pub coarse_names : (mesh : CoarseMesh) (n : ℕ) → map named (unrefined_cells mesh n) ≡ coarse_cells n
 unfolding cell_of
 coarse_names mesh zero = refl
 coarse_names mesh (suc n) = map_push named (unrefined_cells mesh n) (unrefined_cell mesh n) ∙ ap (λ cells. cells ++ (root n ∷ [])) (coarse_names mesh n)

@@ -10,3 +10,6 @@ pub mod Grown
 pub mod Search
 pub mod Closures
 pub mod StepSets
+pub mod Refining
+pub mod Tables
+pub mod Some
