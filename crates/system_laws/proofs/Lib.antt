@@ -13,3 +13,4 @@ pub mod StepSets
 pub mod Refining
 pub mod Tables
 pub mod Some
+pub mod Quadrilaterals

@@ -3,4 +3,4 @@
 
 mod laws;
 
-pub use laws::{a_mesh_has_a_set_up, meshes_have_one_system};
+pub use laws::{a_mesh_has_a_set_up, a_mesh_has_one_system, texts_have_quadrilaterals};
