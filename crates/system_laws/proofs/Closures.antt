@@ -1,5 +1,5 @@
 -- The least set that is closed under a relation which leads down from level to level.
-use Rattle.std.proofs.Common.{◌≡◌, ◌∙◌, sym, ap, refl, subst, ℕ, zero, suc, ◌+◌, ◌<◌, ◌≤◌, ⊎_elim, Bool, true, false, arith}
+use Rattle.std.proofs.Common.{◌≡◌, ℕ, zero, suc, ◌+◌, ◌<◌, ◌≤◌, ⊎_elim, Bool, true, arith}
 use Rattle.std.specs.Prelude.{◌||◌, ◌&&◌}
 use Rattle.forest_balance.proofs.Active.{or_true, or_left, or_right}
 use Rattle.mesh_visits.proofs.Meets.{and_true, and_by}

@@ -1,8 +1,7 @@
 -- What a coarse mesh of quadrilaterals keeps, and what its faults are.
-use Rattle.std.proofs.Common.{◌≡◌, ◌∙◌, sym, ap, refl, subst, ℕ, zero, suc, ◌<◌, ◌≤◌, ⊎_elim, Bool, true, false, List, [], ◌∷◌, length, All, slice_index, slice_index_or, Ok, Err, arith}
+use Rattle.std.proofs.Common.{◌≡◌, ◌∙◌, sym, ap, refl, subst, ℕ, zero, suc, ◌<◌, ◌≤◌, ⊎_elim, Bool, true, false, List, [], ◌∷◌, length, All, Ok, Err, arith}
 use Rattle.std.specs.Prelude.{ℤ, pos, int_lt, take, ◌==◌, ◌&&◌, if◌then◌else◌, Some, None}
 use Rattle.std.specs.declared.option.Option.{Option}
-use Rattle.std.specs.declared.result.Result.{Result}
 use Rattle.std.specs.Option.{option_or}
 use Rattle.std.specs.List.{list_any}
 use Rattle.std.specs.Ordering.{int_eq}
@@ -17,7 +16,7 @@ use Rattle.quad_mesh.specs.declared.fault.MeshFault.TheVariants.{RepeatedCorner,
 use Rattle.quad_mesh.specs.declared.sides.Side.{Side}
 use Rattle.quad_mesh.specs.declared.sides.Side.TheVariants.{Boundary, Cell as Beyond}
 use Rattle.quad_mesh.specs.Geometry.{AreFourDistinct, has_repeats, diagonal_product, turned_corners, is_reentrant}
-use Rattle.quad_mesh.specs.Cells.{vertices_of, quad_of, quads_of, cell_fault, first_fault, spec_at, cells_fault, unless}
+use Rattle.quad_mesh.specs.Cells.{vertices_of, quad_of, quads_of, cell_fault, first_fault, spec_at, cells_fault}
 use Rattle.quad_mesh.specs.Faces.{quad_at, faces_below, faces_on, all_faces}
 use Rattle.quad_mesh.specs.Faults.{is_crowded, edge_fault, edges_fault, line_edge, line_at, differs, line_fault, lines_fault}
 use Rattle.quad_mesh.specs.Mesh.{CoarseMesh, mesh_fault, mesh_of, side_at, IsMutual}

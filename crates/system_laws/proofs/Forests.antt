@@ -1,7 +1,7 @@
 -- Refined meshes that are the same up to the numbers of their corners.
-use Rattle.std.proofs.Common.{◌≡◌, ◌∙◌, sym, ap, ap₂, refl, subst, ℕ, zero, suc, ◌<◌, List, [], ◌∷◌, length, map, slice_index_or, arith}
+use Rattle.std.proofs.Common.{◌≡◌, ◌∙◌, sym, ap, ap₂, refl, subst, ℕ, zero, suc, List, [], ◌∷◌, length, map, slice_index_or}
 use Rattle.quad_mesh.specs.Mesh.{CoarseMesh}
-use Rattle.corner_names.specs.Names.{Cell, root}
+use Rattle.corner_names.specs.Names.{Cell}
 use Rattle.corner_names.specs.Cells.{level}
 use Rattle.hanging_refine.specs.Refined.{ActiveCell, RefinedMesh, cell_of, coarse_of, named, active_cells, cell_in, active_at, cell_at}
 use Rattle.hanging_refine.specs.Refinement.{level_of}

@@ -1,5 +1,5 @@
 -- The refined meshes that steps lead to are leaves of balanced forests.
-use Rattle.std.proofs.Common.{◌≡◌, ◌∙◌, sym, ap, ap₂, refl, subst, ℕ, zero, suc, ◌+◌, ◌<◌, ◌≤◌, ⊎_elim, Bool, true, List, [], ◌∷◌, ◌++◌, length, map, Ok, Err, arith}
+use Rattle.std.proofs.Common.{◌≡◌, ◌∙◌, sym, ap, refl, subst, ℕ, zero, suc, ◌+◌, ◌<◌, ⊎_elim, Bool, true, List, [], ◌∷◌, ◌++◌, length, map, arith}
 use Rattle.quad_mesh.specs.Mesh.{CoarseMesh}
 use Rattle.corner_names.specs.Names.{Cell, root, child}
 use Rattle.corner_names.specs.Cells.{Corners, level}
@@ -7,16 +7,14 @@ use Rattle.forest_balance.specs.Forest.{MeetAt}
 use Rattle.forest_balance.specs.Active.{same_cell, has_cell, refined_by, next_active, IsForest, IsClosedSet, AreOnce, coarse_cells}
 use Rattle.forest_balance.proofs.Active.{or_true, same_true, step_forest, clash}
 use Rattle.forest_balance.proofs.Start.{coarse_forest, coarse_once, once_next}
-use Rattle.hanging_refine.specs.declared.fault.RefineFault.{RefineFault}
 use Rattle.hanging_refine.specs.Coarse.{corner_at, on_boundary, IsCoarse}
-use Rattle.hanging_refine.specs.Refined.{RefinedMesh, cell_of, named, active_cells, cell_in, cell_at, unrefined_cell, unrefined_cells, unrefined}
+use Rattle.hanging_refine.specs.Refined.{RefinedMesh, cell_of, named, active_cells, cell_in, unrefined_cell, unrefined_cells, unrefined}
 use Rattle.hanging_refine.specs.Grown.{IsGrown}
 use Rattle.hanging_refine.specs.Step.{refined_below}
 use Rattle.hanging_refine.specs.Refinement.{level_of, IsRefinedBy, IsStepSet}
 use Rattle.hanging_refine.proofs.Lists.{map_length, has_in}
 use Rattle.hanging_refine.proofs.Unrefined.{map_push}
 use Rattle.hanging_refine.proofs.Stepped.{among, among_from, among_to, step_by_places}
-use Rattle.constrained_mesh.specs.Steps.{Outcome, StepThen, refused, refined, RefinesBy}
 use Rattle.system_laws.proofs.Forests.{level_at}
 
 pub coarse_names : (mesh : CoarseMesh) (n : ℕ) → map named (unrefined_cells mesh n) ≡ coarse_cells n

@@ -1,5 +1,5 @@
 -- Dofs and constraint lines, by the names of corners.
-use Rattle.std.proofs.Common.{◌≡◌, ◌∙◌, sym, ap, ap₂, refl, subst, ℕ, ◌<◌, Bool, List, [], ◌∷◌, length, map, Ok, Err, arith}
+use Rattle.std.proofs.Common.{◌≡◌, ◌∙◌, sym, ap, ap₂, refl, subst, ℕ, Bool, List, [], ◌∷◌, map, Ok, Err, arith}
 use Rattle.std.specs.Prelude.{◌&&◌, ◌||◌, ◌==◌, is_some, pos, Some, None}
 use Rattle.std.specs.declared.option.Option.{Option}
 use Rattle.std.specs.declared.result.Result.{Result}
@@ -18,7 +18,7 @@ use Rattle.dof_numbers.specs.Hanging.{IsHangingName, IsHanging, half, half_line}
 use Rattle.problem_read.specs.Entries.{ProblemParts}
 use Rattle.problem_read.specs.LookUps.{dirichlet_on}
 use Rattle.node_ids.specs.NodeIds.{place_of}
-use Rattle.mesh_visits.specs.Meeting.{Face, all_faces}
+use Rattle.mesh_visits.specs.Meeting.{Face}
 use Rattle.mesh_visits.specs.Visits.{id_of}
 use Rattle.constrained_mesh.specs.declared.fault.ConstraintFault.{ConstraintFault}
 use Rattle.constrained_mesh.specs.Dirichlet.{least, has_value, is_end, ids_among, deciding_id, line_on, dirichlet_line}
@@ -30,7 +30,7 @@ use Rattle.diagnostics.specs.declared.refusal.Refusal.{Refusal}
 use Rattle.diagnostics.specs.declared.ending.Ending.TheVariants.{Refused}
 use Rattle.diagnostics.specs.Layers.{of_constraints}
 use Rattle.system_setup.specs.SetUp.{nodes_of, LinesFor}
-use Rattle.system_laws.proofs.Forests.{IsSameForest, same_count, same_back, by_cells, carry}
+use Rattle.system_laws.proofs.Forests.{IsSameForest, same_count, same_back, by_cells}
 use Rattle.system_laws.proofs.OneTable.{same_answer}
 use Rattle.system_laws.proofs.Visits.{same_outer, same_id, same_faces}
 

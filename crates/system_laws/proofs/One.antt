@@ -1,15 +1,14 @@
 -- A mesh and a problem have one system at most.
-use Rattle.std.proofs.Common.{◌≡◌, ◌∙◌, sym, ap, refl, subst, ℕ, ◌<◌, ◌≤◌, List, [], length, slice_index, slice_index_or, Ok, Err, arith}
+use Rattle.std.proofs.Common.{◌≡◌, ◌∙◌, sym, ap, refl, subst, ℕ, ◌<◌, ◌≤◌, List, [], length, slice_index_or, Ok, Err, arith}
 use Rattle.std.specs.declared.option.Option.{Option}
 use Rattle.std.specs.declared.result.Result.{Result}
 use Rattle.std.proofs.lemmas.List.{ext_get_or}
 use Rattle.fem_fixed.specs.Lists.{different}
 use Rattle.quad_mesh.specs.declared.fault.MeshFault.{MeshFault}
 use Rattle.quad_mesh.specs.Mesh.{CoarseMesh, mesh_of}
-use Rattle.hanging_refine.specs.declared.fault.RefineFault.{RefineFault}
 use Rattle.hanging_refine.specs.Refined.{RefinedMesh, active_cells, unrefined}
 use Rattle.affine_constraints.specs.Lines.{AffineLine}
-use Rattle.dof_numbers.specs.Dofs.{Numbering, IsNumberingOf, cell_dof, corner_dof, same_name}
+use Rattle.dof_numbers.specs.Dofs.{Numbering, IsNumberingOf, same_name}
 use Rattle.problem_read.specs.Entries.{ProblemParts}
 use Rattle.mesh_visits.specs.declared.flags.Interior.{Interior}
 use Rattle.sparsity.specs.Coupled.{pairs_of}
@@ -19,12 +18,12 @@ use Rattle.diagnostics.specs.declared.ending.Ending.{Ending}
 use Rattle.diagnostics.specs.declared.ending.Ending.TheVariants.{Refused}
 use Rattle.diagnostics.specs.Layers.{of_mesh, of_refining}
 use Rattle.diagnostics.specs.Stages.{Then, stops, goes}
-use Rattle.system_setup.specs.SetUp.{CoarseOf, RefinedFrom, LinesFor, IsMadeOf, PatternedFor, SetUpOn}
-use Rattle.system_laws.specs.Same.{IsSameSystem, AgreeOn}
+use Rattle.system_setup.specs.SetUp.{RefinedFrom, IsMadeOf, PatternedFor, SetUpOn}
+use Rattle.system_laws.specs.Same.{AgreeOn}
 use Rattle.system_laws.specs.Laws.{HasOneSystem}
 use Rattle.system_laws.proofs.Forests.{IsSameForest, same_count}
 use Rattle.system_laws.proofs.Lines.{same_corners, same_corner_dof, same_lines}
-use Rattle.system_laws.proofs.Steps.{AreSame, same_steps}
+use Rattle.system_laws.proofs.Steps.{same_steps}
 use Rattle.system_laws.proofs.System.{IsSameSetUp, one_system, same_couplings}
 
 same_row : (a b : RefinedMesh) → IsSameForest a b → (d e : Numbering) → IsNumberingOf a d → IsNumberingOf b e → (c : ℕ) → c < length a.cells → slice_index_or d.cells c [] ≡ slice_index_or e.cells c []

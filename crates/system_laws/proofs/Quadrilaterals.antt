@@ -1,7 +1,6 @@
 -- The meshes of texts are of quadrilaterals.
-use Rattle.std.proofs.Common.{◌≡◌, ◌∙◌, sym, ap, refl, subst, ℕ, zero, suc, ◌<◌, ⊎_elim, Bool, true, false, List, [], ◌∷◌, ◌++◌, length, take, map, All, arith}
-use Rattle.std.specs.Prelude.{◌^◌, codes, Some, Ok, Err, slice_index, nat_lt}
-use Rattle.std.specs.declared.result.Result.{Result}
+use Rattle.std.proofs.Common.{◌≡◌, ◌∙◌, sym, ap, refl, subst, ℕ, zero, suc, ⊎_elim, true, false, List, [], ◌∷◌, ◌++◌, length, take, All, arith}
+use Rattle.std.specs.Prelude.{◌^◌, codes, Some, Ok, slice_index, nat_lt}
 use Rattle.std.specs.List.{slice_get}
 use Rattle.std.specs.Str.{bytes_eq}
 use Rattle.std.proofs.lemmas.Bool.{cases_Bool}
@@ -11,11 +10,10 @@ use Rattle.fem_fixed.specs.Mesh.{Mesh}
 use Rattle.fem_text.specs.Words.{unless, exactly, word_at, id_at}
 use Rattle.fem_text.proofs.OneReading.{ok_same}
 use Rattle.fem_text.proofs.Values.{then_ok, line_ok}
-use Rattle.ucd_read.specs.declared.fault.UcdKind.{UcdKind}
 use Rattle.ucd_read.specs.declared.fault.UcdKind.TheVariants as kinds
 use Rattle.ucd_read.specs.Nodes.{ids_of}
 use Rattle.ucd_read.specs.Cells.{quads_of, node_at, corner_ids, corner_places, quad_line, edge_line, shape_of, shape_at, shaped_line, cell_line}
-use Rattle.ucd_read.specs.Ucd.{cell_behind, Ucd}
+use Rattle.ucd_read.specs.Ucd.{cell_behind}
 use Rattle.system_laws.specs.Laws.{AreQuadrilaterals, TextsHaveQuadrilaterals}
 
 abbrev pub HasFour : QuadSpec → Type 0

@@ -1,5 +1,5 @@
 -- Steps of refinement have an outcome.
-use Rattle.std.proofs.Common.{◌≡◌, ◌∙◌, sym, ap, ap₂, refl, subst, ℕ, zero, suc, ◌+◌, ◌<◌, ◌≤◌, inl, inr, ⊎_elim, Bool, true, false, List, [], ◌∷◌, ◌++◌, length, map, slice_index, slice_index_or, length-append, Ok, Err, arith}
+use Rattle.std.proofs.Common.{◌≡◌, ◌∙◌, sym, ap, ap₂, refl, subst, ℕ, zero, suc, ◌<◌, ◌≤◌, ⊎_elim, Bool, true, false, List, [], ◌∷◌, ◌++◌, length, map, slice_index, slice_index_or, length-append, Ok, Err, arith}
 use Rattle.std.specs.Prelude.{◌^◌, nat_le, fold, Some, None}
 use Rattle.std.specs.declared.option.Option.{Option}
 use Rattle.std.proofs.lemmas.Bool.{cases_lt}
@@ -7,23 +7,21 @@ use Rattle.std.proofs.lemmas.Bool.Decides.{nat_tests}
 use Rattle.std.proofs.lemmas.List.{get_or_append_left}
 use Rattle.std.proofs.Math.Seq.{get_or-append_seam}
 use Rattle.quad_mesh.specs.Mesh.{CoarseMesh}
-use Rattle.quad_mesh.specs.Faces.{quad_at}
 use Rattle.corner_names.specs.Names.{Cell, root, child, Name, node, middle, centre}
 use Rattle.corner_names.specs.Cells.{vertex}
 use Rattle.corner_names.proofs.Distinct.{vertex_root}
 use Rattle.hanging_refine.specs.declared.fault.RefineFault.{RefineFault}
 use Rattle.hanging_refine.specs.declared.fault.RefineFault.TheVariants.{NoSuchCell, Level, Limit, Flat, NoMemory}
 use Rattle.hanging_refine.specs.Coarse.{corner_at}
-use Rattle.hanging_refine.specs.Refined.{ActiveCell, RefinedMesh, cell_of, coarse_of, named, active_cells, cell_in, active_at, cell_at, unrefined_cell, unrefined_cells, unrefined}
+use Rattle.hanging_refine.specs.Refined.{ActiveCell, RefinedMesh, cell_of, coarse_of, named, active_cells, cell_in, cell_at, unrefined_cell, unrefined_cells, unrefined}
 use Rattle.hanging_refine.specs.Order.{path_of}
 use Rattle.hanging_refine.specs.Numbered.{corner_name, corner_number}
-use Rattle.hanging_refine.specs.Closure.{IsFirstPast}
 use Rattle.hanging_refine.specs.Step.{refined_below, count_below, first_where}
 use Rattle.hanging_refine.specs.Refinement.{IsStepSet, is_lowest, has_flat, next_count, IsRefinedBy, IsRefusal}
 use Rattle.hanging_refine.proofs.Lists.{map_in, map_length}
 use Rattle.hanging_refine.proofs.Unrefined.{by_face, coarse_in}
 use Rattle.hanging_refine.specs.Grown.{IsGrown}
-use Rattle.constrained_mesh.specs.Steps.{Outcome, StepThen, refused, refined, RefinesBy}
+use Rattle.constrained_mesh.specs.Steps.{Outcome, refused, refined, RefinesBy}
 use Rattle.diagnostics.specs.declared.refusal.Refusal.{Refusal}
 use Rattle.diagnostics.specs.declared.ending.Ending.TheVariants.{Refused}
 use Rattle.diagnostics.specs.Layers.{of_refining}
@@ -67,13 +65,15 @@ made mesh cells = record { mesh = mesh; cells = map (numbered mesh) cells }
 
 made_numbered : (mesh : CoarseMesh) (cells : List Cell) → IsNodeNumbered (made mesh cells)
 unfolding made numbered
-made_numbered mesh cells = record { by_name = λ c v h a.
-    let l = map_length (numbered mesh) cells in
-    let b : c < length cells = omega arith in
-    let x : Cell = cell_in cells c in
-    ap (λ (y : ActiveCell). slice_index y.corners v) (map_in (numbered mesh) cells c (root 0) (record { coarse = 0; path = []; corners = [] }) b)
-    ∙ at_four (λ w. number_of (vertex (corner_at mesh) x w)) 0 v a
-    ∙ ap (λ (xs : List Cell). number_of (vertex (corner_at mesh) (cell_in xs c) v)) (sym (names_back mesh cells)) }
+made_numbered mesh cells = record {
+  by_name = λ c v h a.
+      let l = map_length (numbered mesh) cells in
+      let b : c < length cells = omega arith in
+      let x : Cell = cell_in cells c in
+      ap (λ (y : ActiveCell). slice_index y.corners v) (map_in (numbered mesh) cells c (root 0) (record { coarse = 0; path = []; corners = [] }) b)
+      ∙ at_four (λ w. number_of (vertex (corner_at mesh) x w)) 0 v a
+      ∙ ap (λ (xs : List Cell). number_of (vertex (corner_at mesh) (cell_in xs c) v)) (sym (names_back mesh cells));
+}
 
 unrefined_length : (mesh : CoarseMesh) (n : ℕ) → length (unrefined_cells mesh n) ≡ n
 unrefined_length mesh zero = refl
@@ -90,13 +90,15 @@ unrefined_in mesh (suc n) c d h =
 
 start_numbered : (mesh : CoarseMesh) → IsNodeNumbered (unrefined mesh)
 unfolding corner_at number_of
-start_numbered mesh = record { by_name = λ c v h a.
-    let n : ℕ = length mesh.cells in
-    let l = unrefined_length mesh n in
-    let b : c < n = omega arith in
-    let x : cell_at (unrefined mesh) c ≡ root c = ap (λ xs. cell_in xs c) (coarse_names mesh n) ∙ coarse_in n c b in
-    ap (λ (y : ActiveCell). slice_index y.corners v) (unrefined_in mesh n c (record { coarse = 0; path = []; corners = [] }) b)
-    ∙ ap number_of (sym (vertex_root (corner_at mesh) c v)) ∙ ap (λ y. number_of (vertex (corner_at mesh) y v)) (sym x) }
+start_numbered mesh = record {
+  by_name = λ c v h a.
+      let n : ℕ = length mesh.cells in
+      let l = unrefined_length mesh n in
+      let b : c < n = omega arith in
+      let x : cell_at (unrefined mesh) c ≡ root c = ap (λ xs. cell_in xs c) (coarse_names mesh n) ∙ coarse_in n c b in
+      ap (λ (y : ActiveCell). slice_index y.corners v) (unrefined_in mesh n c (record { coarse = 0; path = []; corners = [] }) b)
+      ∙ ap number_of (sym (vertex_root (corner_at mesh) c v)) ∙ ap (λ y. number_of (vertex (corner_at mesh) y v)) (sym x);
+}
 
 -- what stands against a step, if anything
 data Verdict (low : Option ℕ) (count : ℕ) (flat : Option ℕ) : Type 0 where

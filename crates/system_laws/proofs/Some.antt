@@ -1,5 +1,5 @@
 -- A mesh of quadrilaterals and a problem have an outcome of their set-up.
-use Rattle.std.proofs.Common.{◌≡◌, sym, refl, subst, ℕ, ◌<◌, ◌≤◌, ⊎_elim, List, length, All, Ok, Err}
+use Rattle.std.proofs.Common.{◌≡◌, refl, subst, ℕ, ◌<◌, ◌≤◌, ⊎_elim, List, Ok, Err}
 use Rattle.std.specs.declared.option.Option.{Option}
 use Rattle.std.specs.declared.result.Result.{Result}
 use Rattle.std.proofs.lemmas.Bool.{cases_lt}
@@ -7,7 +7,6 @@ use Rattle.quad_mesh.specs.declared.fault.MeshFault.{MeshFault}
 use Rattle.quad_mesh.specs.declared.fault.MeshFault.TheVariants as coarse
 use Rattle.fem_fixed.specs.Mesh.{Mesh}
 use Rattle.quad_mesh.specs.Mesh.{CoarseMesh, mesh_of}
-use Rattle.hanging_refine.specs.Coarse.{IsCoarse}
 use Rattle.hanging_refine.specs.Grown.{IsGrown}
 use Rattle.hanging_refine.specs.Refined.{RefinedMesh, unrefined}
 use Rattle.affine_constraints.specs.Lines.{AffineLine}
@@ -22,8 +21,8 @@ use Rattle.diagnostics.specs.declared.kinds.LimitKind.TheVariants.{Entries}
 use Rattle.diagnostics.specs.declared.ending.Ending.TheVariants.{Refused}
 use Rattle.diagnostics.specs.Layers.{of_mesh}
 use Rattle.diagnostics.specs.Stages.{Then, stops, goes}
-use Rattle.system_setup.specs.SetUp.{CoarseOf, RefinedFrom, LinesFor, flags_for, IsMadeOf, PatternedFor, SetUpOn, IsSetUp}
-use Rattle.system_laws.specs.Laws.{AreQuadrilaterals, HasASetUp}
+use Rattle.system_setup.specs.SetUp.{CoarseOf, RefinedFrom, LinesFor, flags_for, IsMadeOf, PatternedFor, SetUpOn}
+use Rattle.system_laws.specs.Laws.{HasASetUp}
 use Rattle.system_laws.proofs.Coarse.{coarse_good, never_memory}
 use Rattle.system_laws.proofs.Grown.{start_grown}
 use Rattle.system_laws.proofs.Refining.{steps_end, steps_grown, steps_told}

@@ -1,12 +1,10 @@
 -- Steps of refinement have one outcome, up to the numbers of corners.
-use Rattle.std.proofs.Common.{◌≡◌, ◌∙◌, sym, ap, ap₂, refl, subst, ℕ, ◌+◌, ◌*◌, ◌<◌, ◌≤◌, ◌⊎◌, inl, inr, ⊎_elim, Bool, true, false, List, [], ◌∷◌, length, slice_index, Ok, Err, arith}
+use Rattle.std.proofs.Common.{◌≡◌, ◌∙◌, sym, ap, ap₂, refl, subst, ℕ, ◌+◌, ◌*◌, ◌<◌, ◌≤◌, ⊎_elim, Bool, true, false, List, [], ◌∷◌, length, slice_index, Ok, Err, arith}
 use Rattle.std.specs.Prelude.{◌^◌, ◌==◌, ◌&&◌, nat_lt, Some, None}
 use Rattle.std.specs.declared.option.Option.{Option}
-use Rattle.std.specs.declared.result.Result.{Result}
 use Rattle.std.proofs.Math.Path.{fun_ext}
 use Rattle.std.proofs.lemmas.Bool.{cases_lt}
 use Rattle.std.proofs.lemmas.Bool.Decides.{nat_tests}
-use Rattle.corner_names.specs.Names.{Cell}
 use Rattle.forest_balance.specs.Forest.{MeetAt}
 use Rattle.hanging_refine.specs.declared.fault.RefineFault.{RefineFault}
 use Rattle.hanging_refine.specs.declared.fault.RefineFault.TheVariants.{NoSuchCell, Level, Limit, Flat, NoMemory}
@@ -15,8 +13,8 @@ use Rattle.hanging_refine.specs.Refined.{RefinedMesh, active_cells, cell_in}
 use Rattle.hanging_refine.specs.Points.{cell_points, has_flat_child}
 use Rattle.hanging_refine.specs.Closure.{IsFirstPast}
 use Rattle.hanging_refine.specs.Step.{refined_below, count_below, first_where}
-use Rattle.hanging_refine.specs.Refinement.{level_of, IsClosedUnder, IsStepSet, is_lowest, has_flat, next_count, IsRefinedBy, IsRefusal}
-use Rattle.constrained_mesh.specs.Steps.{Outcome, StepThen, refused, refined, RefinesBy}
+use Rattle.hanging_refine.specs.Refinement.{IsClosedUnder, IsStepSet, is_lowest, has_flat, next_count, IsRefinedBy, IsRefusal}
+use Rattle.constrained_mesh.specs.Steps.{Outcome, refused, refined, RefinesBy}
 use Rattle.system_laws.proofs.Forests.{IsSameForest, same_count, same_back, by_cells, carry, same_level}
 
 same_bool : (p q : Bool) → (p ≡ true → q ≡ true) → (q ≡ true → p ≡ true) → p ≡ q

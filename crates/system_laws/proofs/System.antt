@@ -1,5 +1,5 @@
 -- Set-ups over refined meshes that are the same up to the numbers of corners have one system.
-use Rattle.std.proofs.Common.{◌≡◌, ◌∙◌, sym, ap, ap₂, refl, ℕ, List, [], ◌∷◌, ◌++◌, length, map, slice_index, slice_index_or}
+use Rattle.std.proofs.Common.{◌≡◌, ◌∙◌, ap, ap₂, ℕ, List, [], ◌∷◌, ◌++◌, map, slice_index, slice_index_or}
 use Rattle.std.specs.Prelude.{filter, Ok}
 use Rattle.std.specs.declared.option.Option.{Option}
 use Rattle.std.specs.declared.result.Result.{Result}
@@ -9,9 +9,9 @@ use Rattle.fem_fixed.specs.declared.mesh.Point.{Point}
 use Rattle.quad_mesh.specs.Faces.{quad_at}
 use Rattle.quad_mesh.specs.Geometry.{point_at}
 use Rattle.corner_names.specs.Cells.{face_start, face_end}
-use Rattle.hanging_refine.specs.Refined.{active_at, cell_in}
+use Rattle.hanging_refine.specs.Refined.{cell_in}
 use Rattle.hanging_refine.specs.Points.{cell_points}
-use Rattle.affine_constraints.specs.Lines.{AffineLine, Lines, lines_in}
+use Rattle.affine_constraints.specs.Lines.{AffineLine, lines_in}
 use Rattle.problem_read.specs.Entries.{ProblemParts}
 use Rattle.problem_read.specs.LookUps.{diffusion_on, source_on, robin_on, penalty_in}
 use Rattle.fixed_q1.specs.declared.fault.LocalFault.{LocalFault}
@@ -26,12 +26,12 @@ use Rattle.mesh_visits.specs.declared.flags.Flags.{Flags}
 use Rattle.mesh_visits.specs.declared.visit.Visit.{Visit}
 use Rattle.mesh_visits.specs.declared.visit.Visit.TheVariants.{Cell as OnCell, Boundary as OnBoundary, Interior as OnPart}
 use Rattle.mesh_visits.specs.Visits.{visits_of}
-use Rattle.cell_blocks.specs.Blocks.{Given, material_of, points_of, dofs_of, end_points, end_dofs, part_ends, face_form, visit_dofs, own_form, part_form, visit_form, with_dofs, block_of, all_blocks, blocks_of, cell_blocks}
+use Rattle.cell_blocks.specs.Blocks.{Given, material_of, points_of, part_ends, face_form, visit_dofs, visit_form, with_dofs, block_of, all_blocks, blocks_of, cell_blocks}
 use Rattle.cell_sums.specs.Parts.{part_of_blocks}
 use Rattle.serial_sum.specs.declared.part.CellPart.{CellPart}
 use Rattle.sparsity.specs.Coupled.{has, rows_of}
 use Rattle.mesh_loop.specs.Setup.{MeshProblem, cells_of, cell_visits, masters_of, visit_masters, coupled_by, coupled_dofs, pattern_of, visit_rows, written_rows}
-use Rattle.mesh_loop.specs.Sum.{part_of, parts_of}
+use Rattle.mesh_loop.specs.Sum.{part_of}
 use Rattle.system_laws.specs.Same.{IsSameSystem}
 use Rattle.system_laws.proofs.Forests.{IsSameForest, same_count, same_coarse, by_cells}
 use Rattle.system_laws.proofs.Visits.{same_visits}

@@ -1,5 +1,5 @@
 -- Refined meshes have dofs, and closed lines or a fault of the constraints.
-use Rattle.std.proofs.Common.{◌≡◌, ◌∙◌, sym, ap, refl, subst, ℕ, ◌<◌, ◌≤◌, ⊎_elim, Bool, true, false, List, [], ◌∷◌, length, map, slice_index, slice_index_or, slice_set, All, Ok, Err, arith}
+use Rattle.std.proofs.Common.{◌≡◌, ◌∙◌, sym, ap, refl, subst, ℕ, ◌<◌, ◌≤◌, ⊎_elim, List, [], ◌∷◌, length, map, slice_index, slice_index_or, slice_set, Ok, Err, arith}
 use Rattle.std.specs.Prelude.{◌^◌, not, is_some, Some, None, MatchOption}
 use Rattle.std.specs.declared.option.Option.{Option}
 use Rattle.std.specs.declared.result.Result.{Result}
@@ -9,16 +9,15 @@ use Rattle.std.proofs.Math.Path.{fun_ext}
 use Rattle.std.proofs.lemmas.Bool.{cases_lt}
 use Rattle.std.proofs.lemmas.List.{get_or_past}
 use Rattle.std.proofs.lemmas.List.FromFn.{length-map-range_with_len, get_or-map-range_with_len}
-use Rattle.fem_text.specs.Words.{◌>>=◌, or_fault, unless}
+use Rattle.fem_text.specs.Words.{◌>>=◌, unless}
 use Rattle.fem_fixed.specs.Lists.{different, rank_among}
-use Rattle.corner_names.specs.Names.{Cell, Name, root, node}
+use Rattle.corner_names.specs.Names.{Cell, root, node}
 use Rattle.corner_names.specs.Cells.{vertex}
 use Rattle.hanging_refine.specs.Coarse.{corner_at}
 use Rattle.hanging_refine.specs.Refined.{RefinedMesh, named, active_cells, cell_in}
 use Rattle.hanging_refine.specs.Grown.{IsGrown}
 use Rattle.hanging_refine.proofs.Lists.{map_in, map_length}
 use Rattle.hanging_refine.proofs.Unrefined.{by_face}
-use Rattle.affine_constraints.specs.declared.term.Term.{Term}
 use Rattle.affine_constraints.specs.declared.fault.CloseFault.{CloseFault}
 use Rattle.affine_constraints.specs.Lines.{AffineLine, Lines, lines_in}
 use Rattle.affine_constraints.specs.Closing.{AreClosed, IsClosedLine}
