@@ -104,12 +104,12 @@ start_numbered mesh = record {
 data Verdict (low : Option ℕ) (count : ℕ) (flat : Option ℕ) : Type 0 where
   deep : (cell : ℕ) → low ≡ Some cell → Verdict low count flat
   many : low ≡ None → 2 ^ 20 < count → Verdict low count flat
-  level : (cell : ℕ) → low ≡ None → count ≤ 2 ^ 20 → flat ≡ Some cell → Verdict low count flat
+  flattens : (cell : ℕ) → low ≡ None → count ≤ 2 ^ 20 → flat ≡ Some cell → Verdict low count flat
   fine : low ≡ None → count ≤ 2 ^ 20 → flat ≡ None → Verdict low count flat
 
 last_verdict : (count : ℕ) (flat : Option ℕ) → count ≤ 2 ^ 20 → Verdict None count flat
 last_verdict count None h = fine refl h refl
-last_verdict count (Some cell) h = level cell refl h refl
+last_verdict count (Some cell) h = flattens cell refl h refl
 
 verdict : (low : Option ℕ) (count : ℕ) (flat : Option ℕ) → Verdict low count flat
 verdict (Some cell) count flat = deep cell refl
@@ -146,7 +146,7 @@ by_verdict : (old : RefinedMesh) (asked : List ℕ) (set : ℕ → Bool) → IsN
     Verdict (first_where (is_lowest old set) (length old.cells)) (next_count old set) (first_where (has_flat old set) (length old.cells)) → Stepped old asked
 by_verdict old asked set s is (deep cell e) = is_refused (Level cell) (set, (is, e))
 by_verdict old asked set s is (many e h) = is_refused Limit (set, (is, (e, h)))
-by_verdict old asked set s is (level cell e h f) = is_refused (Flat cell) (set, (is, (e, (h, f))))
+by_verdict old asked set s is (flattens cell e h f) = is_refused (Flat cell) (set, (is, (e, (h, f))))
 by_verdict old asked set s is (fine e h f) = is_refined (next_mesh old set) (count_below set (length old.cells)) (next_is old asked set s is e h f) (next_numbered old set)
 
 past_true : (n x : ℕ) → nat_le n x ≡ true → n ≤ x

@@ -31,7 +31,7 @@ use Rattle.cell_sums.specs.Parts.{part_of_blocks}
 use Rattle.serial_sum.specs.declared.part.CellPart.{CellPart}
 use Rattle.sparsity.specs.Coupled.{has, rows_of}
 use Rattle.mesh_loop.specs.Setup.{MeshProblem, cells_of, cell_visits, masters_of, visit_masters, coupled_by, coupled_dofs, pattern_of, visit_rows, written_rows}
-use Rattle.mesh_loop.specs.Sum.{part_of}
+use Rattle.mesh_loop.specs.Sum.{part_of, parts_of}
 use Rattle.system_laws.specs.Same.{IsSameSystem}
 use Rattle.system_laws.proofs.Forests.{IsSameForest, same_count, same_coarse, by_cells}
 use Rattle.system_laws.proofs.Visits.{same_visits}
@@ -140,11 +140,17 @@ same_part s t e cell =
     ap₂ (λ (closed : List (Option AffineLine)) (blocks : Result (List LocalBlock) LocalFault). part_of_blocks (lines_in closed) cell blocks) e.closed
     (ap (λ flags. cell_blocks flags s.given cell) e.flags ∙ same_blocks t.flags s.given t.given e.given cell)
 
+same_parts : (s t : MeshProblem) → IsSameSetUp s t → (order : List ℕ) → parts_of s order ≡ parts_of t order
+same_parts s t e order = ap (λ (part : ℕ → CellPart). map part order) (fun_ext (λ cell. same_part s t e cell))
+
 -- they have one system
 pub one_system : (s t : MeshProblem) → IsSameSetUp s t → IsSameSystem s t
 one_system s t e = record {
   cells = same_cells s t e;
+  dofs = e.size;
+  lines = e.closed;
   pattern = same_pattern s t e;
-  parts = ap₂ (λ (part : ℕ → CellPart) (cells : List ℕ). map part cells) (fun_ext (λ cell. same_part s t e cell)) (same_cells s t e);
+  parts = same_parts s t e (cells_of s) ∙ ap (parts_of t) (same_cells s t e);
+  in_order = same_parts s t e;
   rows = λ cell. ap (λ rows. rows cell) (same_rows s t e);
 }

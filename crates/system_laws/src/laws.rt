@@ -1,8 +1,8 @@
 ghost use Rattle.system_laws.specs.Laws.{HasOneSystem, HasASetUp, TextsHaveQuadrilaterals};
 
 /// A mesh and a problem have at most one system: two outcomes of their set-up are one refusal, or two set-ups with
-/// the same cells, the same pattern, the same part of each cell, and the same rows that each cell writes. Only the
-/// numbers of corners may differ.
+/// the same cells, dofs and closed lines, the same pattern, the same part of each cell, and the same rows that each
+/// cell writes. Only the numbers of corners may differ.
 pub fn a_mesh_has_one_system()
     ensures { HasOneSystem }
 {}
