@@ -6,7 +6,7 @@ use Rattle.run_words.specs.declared.options.Mode.TheVariants as modes
 -- those of a run that does not wait
 abbrev pub plain_modes : Mode → Bool
 plain_modes modes.Serial = true
+plain_modes modes.Colored = true
 plain_modes modes.Pattern = true
 plain_modes modes.Colors = true
-plain_modes modes.Colored = false
 plain_modes modes.Ordered = false

@@ -25,7 +25,7 @@ fn is_plain(mode: Mode) -> bool
     ensures { result ≡ plain_modes mode }
 {
     match mode {
-        Mode::Serial | Mode::Pattern | Mode::Colors => true,
-        Mode::Colored | Mode::Ordered => false,
+        Mode::Serial | Mode::Colored | Mode::Pattern | Mode::Colors => true,
+        Mode::Ordered => false,
     }
 }

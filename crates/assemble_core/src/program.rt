@@ -3,6 +3,7 @@ ghost use Rattle.assemble_core.specs.Run.{is_status};
 
 use crate::run_plain;
 use fem_text::{DiskStore, StdSink, Streams};
+use scratch_pool::OpenGate;
 use std::env;
 use std::io::ErrorKind;
 use std::rt::Runtime;
@@ -25,5 +26,13 @@ pub fn run_program<R: Runtime + AllocGlobal + Threads + Sync + Streams>(rt: &R) 
     let mut store = DiskStore::new(rt);
     let mut out = StdSink::new(rt, false);
     let mut err = StdSink::new(rt, true);
-    run_plain(rt, alloc, words.as_slice(), &mut store, &mut out, &mut err)
+    run_plain(
+        rt,
+        alloc,
+        words.as_slice(),
+        &mut store,
+        &mut out,
+        &mut err,
+        &OpenGate,
+    )
 }

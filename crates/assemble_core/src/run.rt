@@ -7,6 +7,7 @@ use crate::work::all_targets;
 use diagnostics::{Ending, Refusal};
 use fem_text::{Sink, Store};
 use run_outputs::write_targets;
+use scratch_pool::Gate;
 use std::alloc::Global;
 use std::rt::Runtime;
 use std::thread::Threads;
@@ -33,20 +34,21 @@ use std::thread::Threads;
 ///
 /// With each status but 0 one line goes to `err`, last. With a status other than 0, 11 and 12 nothing is written.
 /// It always returns.
-pub fn run_plain<R: Runtime + Threads + Sync, S: Store, K: Sink>(
+pub fn run_plain<R: Runtime + Threads + Sync, S: Store, K: Sink, G: Gate + Sync>(
     rt: &R,
     alloc: Global,
     words: &[String],
     store: &mut S,
     out: &mut K,
     err: &mut K,
+    gate: &G,
 ) -> u8
     ensures { IsRun plain_modes (map string_bytes words.now)
         (record { world = record { holds = S.holds store.old; taken = K.taken out.old }; calls = record { store = S.counts store.old; out = K.counts out.old }; told = K.taken err.old; tells = K.counts err.old })
         (record { world = record { holds = S.holds store.new; taken = K.taken out.new }; calls = record { store = S.counts store.new; out = K.counts out.new }; told = K.taken err.new; tells = K.counts err.new })
         result }
 {
-    match work(rt, alloc, words, store, out) {
+    match work(rt, alloc, words, store, out, gate) {
         Ok(()) => 0,
         Err(ending) => {
             ending.put_line(err);
@@ -56,12 +58,13 @@ pub fn run_plain<R: Runtime + Threads + Sync, S: Store, K: Sink>(
 }
 
 // Reads, assembles and writes.
-fn work<R: Runtime + Threads + Sync, S: Store, K: Sink>(
+fn work<R: Runtime + Threads + Sync, S: Store, K: Sink, G: Gate + Sync>(
     rt: &R,
     alloc: Global,
     words: &[String],
     store: &mut S,
     out: &mut K,
+    gate: &G,
 ) -> Result<(), Ending>
     ensures { Leaves plain_modes (map string_bytes words.now)
         (record { holds = S.holds store.old; taken = K.taken out.old }) (record { store = S.counts store.old; out = K.counts out.old })
@@ -71,7 +74,7 @@ fn work<R: Runtime + Threads + Sync, S: Store, K: Sink>(
     let Some(options) = plain_options(words) else {
         return Err(Ending::Refused(Refusal::Words));
     };
-    let targets = match all_targets(rt, alloc, &options, store) {
+    let targets = match all_targets(rt, alloc, &options, store, gate) {
         Ok(targets) => targets,
         Err(ending) => return Err(ending),
     };

@@ -21,17 +21,19 @@ use problem_read::Problem;
 use run_outputs::Target;
 use run_texts::read_source;
 use run_words::{Faces, Options};
+use scratch_pool::Gate;
 use std::alloc::Global;
 use std::thread::Threads;
 use system_setup::set_up;
 use system_texts::{make_targets, sum_rows};
 
 /// The texts that are asked for, and where they go.
-pub(crate) fn all_targets<'a, R: Threads + Sync, S: Store>(
+pub(crate) fn all_targets<'a, R: Threads + Sync, S: Store, G: Gate + Sync>(
     rt: &R,
     alloc: Global,
     options: &Options<'a>,
     store: &mut S,
+    gate: &G,
 ) -> Result<Vec<Target<'a>>, Ending>
     requires within { IsWithinRanges (seen options.now) }
     ensures ok { IfOk result (λ targets. Defines (S.holds store.old) (seen options.now) (Ok (map seen_target targets.items))) }
@@ -43,16 +45,17 @@ pub(crate) fn all_targets<'a, R: Threads + Sync, S: Store>(
         Ok(read) => read,
         Err(ending) => return Err(ending),
     };
-    targets_for(rt, alloc, options, parts, problem)
+    targets_for(rt, alloc, options, parts, problem, gate)
 }
 
 // The texts of a mesh and a problem.
-fn targets_for<'a, R: Threads + Sync>(
+fn targets_for<'a, R: Threads + Sync, G: Gate + Sync>(
     rt: &R,
     alloc: Global,
     options: &Options<'a>,
     parts: MeshParts,
     problem: Problem,
+    gate: &G,
 ) -> Result<Vec<Target<'a>>, Ending>
     requires within { IsWithinRanges (seen options.now) }
     requires bounded { IsBounded parts }
@@ -66,14 +69,16 @@ fn targets_for<'a, R: Threads + Sync>(
         Ok(setup) => setup,
         Err(ending) => return Err(ending),
     };
-    system_targets(alloc, options, &setup)
+    system_targets(rt, alloc, options, &setup, gate)
 }
 
 // The texts of a system.
-fn system_targets<'a>(
+fn system_targets<'a, R: Threads + Sync, G: Gate + Sync>(
+    rt: &R,
     alloc: Global,
     options: &Options<'a>,
     setup: &Setup,
+    gate: &G,
 ) -> Result<Vec<Target<'a>>, Ending>
     requires within { IsWithinRanges (seen options.now) }
     requires few { length (concat (pattern_of setup.now)) ≤ 33554432 }
@@ -81,7 +86,7 @@ fn system_targets<'a>(
     ensures refused { IfErr result (EndsIn (SystemTexts (seen options.now) setup.now)) }
     ensures never { is_read_fault result ≡ false }
 {
-    let rows = match sum_rows(alloc, options.mode, options.digits, setup) {
+    let rows = match sum_rows(rt, alloc, options, setup, gate) {
         Ok(rows) => rows,
         Err(ending) => return Err(ending),
     };

@@ -1,0 +1,16 @@
+pub mod Forests
+pub mod Visits
+pub mod OneTable
+pub mod Lines
+pub mod Steps
+pub mod System
+pub mod One
+pub mod Coarse
+pub mod Grown
+pub mod Search
+pub mod Closures
+pub mod StepSets
+pub mod Refining
+pub mod Tables
+pub mod Some
+pub mod Quadrilaterals

@@ -1,0 +1,19 @@
+ghost use Rattle.system_laws.specs.Laws.{HasOneSystem, HasASetUp, TextsHaveQuadrilaterals};
+
+/// A mesh and a problem have at most one system: two outcomes of their set-up are one refusal, or two set-ups with
+/// the same cells, dofs and closed lines, the same pattern, the same part of each cell, and the same rows that each
+/// cell writes. Only the numbers of corners may differ.
+pub fn a_mesh_has_one_system()
+    ensures { HasOneSystem }
+{}
+
+/// A mesh of quadrilaterals and a problem have an outcome of their set-up, so what is said of outcomes is never
+/// empty.
+pub fn a_mesh_has_a_set_up()
+    ensures { HasASetUp }
+{}
+
+/// Each cell that a mesh text calls a quadrilateral has four corners.
+pub fn texts_have_quadrilaterals()
+    ensures { TextsHaveQuadrilaterals }
+{}
