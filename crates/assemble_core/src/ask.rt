@@ -8,6 +8,7 @@ ghost use Rattle.assemble_core.specs.Answer.{Asked};
 use run_words::{Mode, Options, choices_are_within, read_words};
 
 /// What the words ask of a run that does not wait.
+#[tactic(auto, using(crate::proofs::Asking::other_refused))]
 pub(crate) fn plain_options(words: &[String]) -> Option<Options<'_>>
     ensures asked { IfSome result (λ options. Asked plain_modes (map string_bytes words.now) (Ok (seen options))) }
     ensures within { IfSome result (λ options. IsWithinRanges (seen options)) }
@@ -15,8 +16,14 @@ pub(crate) fn plain_options(words: &[String]) -> Option<Options<'_>>
 {
     choices_are_within();
     match read_words(words) {
-        Some(options) if is_plain(options.mode) => Some(options),
-        _ => None,
+        Some(options) => {
+            if is_plain(options.mode) {
+                Some(options)
+            } else {
+                None
+            }
+        }
+        None => None,
     }
 }
 

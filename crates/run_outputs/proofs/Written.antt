@@ -22,7 +22,7 @@ failed_later standard before middle now a (s, o) = (well_well before.store middl
 failed_later (named name) before middle now a (s, o) = (well_fault before.store middle.store now.store a.store s, well_well before.out middle.out now.out a.out o)
 
 -- an end after calls that went well
-stops_later : (target : Target) (before now : World) (calls middle calls_now : Calls) (e : Ending) → AllCallsWell calls middle → StopsAt target before now middle calls_now e →
+pub stops_later : (target : Target) (before now : World) (calls middle calls_now : Calls) (e : Ending) → AllCallsWell calls middle → StopsAt target before now middle calls_now e →
     StopsAt target before now calls calls_now e
 stops_later target before now calls middle calls_now (Refused refusal) a h = h
 stops_later target before now calls middle calls_now (ReadFault role) a h = h
