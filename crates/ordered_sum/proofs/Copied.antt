@@ -5,6 +5,7 @@ use Rattle.std.specs.List.{range_with_len}
 use Rattle.std.specs.declared.result.Result.{Result}
 use Rattle.std.proofs.lemmas.List.{get_or-take, length-take, length-map, take_more_set}
 use Rattle.std.proofs.lemmas.List.FromFn.{get_or-map-range_with_len, length-map-range_with_len, length-range_with_len, map-range_with_len_more}
+use Rattle.std.proofs.lemmas.Grind.{common_steps}
 use Rattle.cell_blocks.specs.Blocks.{cell_blocks}
 use Rattle.fixed_q1.specs.declared.fault.LocalFault.{LocalFault}
 use Rattle.local_blocks.specs.Blocks.{LocalBlock}
@@ -39,3 +40,6 @@ pub copy_is : (s : MeshProblem) (first count k : ℕ) (copies : List (Result (Li
 copy_is s first count k copies copy inside stand e =
     let whole : take count copies ≡ blocks_of s (range_with_len first count) = ap (λ n. take n copies) (sym (length-range_with_len first count)) ∙ stand in
     e ∙ sym (get_or-take count copies k copy inside) ∙ ap (λ l. get_or l k copy) whole ∙ get_or-map-range_with_len (cell_blocks s.flags s.given) first count k (first + k) copy inside refl
+
+pub as_many : (copies : List (Result (List LocalBlock) LocalFault)) (k : ℕ) (copy : Result (List LocalBlock) LocalFault) → length (set copies k copy) ≡ length copies
+as_many copies k copy = grind (arith, common_steps)

@@ -3,17 +3,31 @@ use Rattle.std.proofs.Common.{◌≡◌, ◌∙◌, sym, ap, subst, ℕ, ◌<◌
 use Rattle.std.specs.List.{All, range_with_len}
 use Rattle.std.specs.declared.option.Option.{Option}
 use Rattle.std.proofs.lemmas.List.FromFn.{length-map-range_with_len, get_or-map-range_with_len}
+use Rattle.serial_sum.specs.Rows.{FitsRows}
 use Rattle.serial_sum.specs.SerialSum.{SumIs}
 use Rattle.serial_sum.specs.Steps.{zero_state, answer_of, failure_fault, FaultIs, IsPartFor}
 use Rattle.serial_sum.specs.declared.part.CellPart.{CellPart}
 use Rattle.serial_sum.specs.declared.sum.Failure.{Failure}
 use Rattle.serial_sum.specs.declared.sum.MatrixState.{MatrixState}
-use Rattle.serial_sum.proofs.StateLaws.{steps_give, fault_says}
+use Rattle.serial_sum.proofs.StateLaws.{zero_fits, steps_give, fault_says}
+use Rattle.sparsity.specs.Rows.{zero_row}
 use Rattle.sparsity.specs.declared.rows.Row.{Row}
 use Rattle.mesh_loop.specs.Setup.{MeshProblem, cells_of, pattern_of}
 use Rattle.mesh_loop.specs.Sum.{part_of, parts_of, IsWritten}
 use Rattle.mesh_loop.proofs.Summing.{state_at, pattern_rises}
 use Rattle.ordered_sum.specs.Chunks.{state_after}
+
+-- rows of zeros fit
+pub zeros_fit : (s now : MeshProblem) (pattern : List (List ℕ)) (rows : List Row) → now ≡ s → pattern ≡ pattern_of s → rows ≡ map zero_row pattern → FitsRows (pattern_of now) rows
+zeros_fit s now pattern rows same is zeros =
+    let P : MeshProblem → Type 0 = λ t. FitsRows (pattern_of t) rows in
+    let Q : List (List ℕ) → Type 0 = λ p. FitsRows p rows in
+    let R : List Row → Type 0 = λ r. FitsRows pattern r in
+    subst P (sym same) (subst Q is (subst R (sym zeros) (zero_fits pattern)))
+
+-- the state after all cells of a job is that of its set-up and digits
+pub end_of : (digits same : ℕ) (s now : MeshProblem) (start end : MatrixState) → same ≡ digits → now ≡ s → end ≡ state_after same now start (cells_of now) → end ≡ state_after digits s start (cells_of s)
+end_of digits same s now start end d e ends = ends ∙ ap (λ n. state_after n now start (cells_of now)) d ∙ ap (λ (t : MeshProblem). state_after digits t start (cells_of t)) e
 
 -- each part may be added
 pub parts_allowed : (s : MeshProblem) → ((cell : ℕ) → cell < length s.given.forest.cells → IsWritten s cell) → All (IsPartFor (pattern_of s)) (parts_of s (cells_of s))

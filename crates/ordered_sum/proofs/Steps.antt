@@ -14,16 +14,14 @@ use Rattle.cell_blocks.specs.Visited.{blocks_in}
 use Rattle.cell_sums.specs.Parts.{part_of_blocks, HoldsAll}
 use Rattle.fixed_q1.specs.declared.fault.LocalFault.{LocalFault}
 use Rattle.local_blocks.specs.Blocks.{LocalBlock}
-use Rattle.serial_sum.specs.Rows.{FitsRows}
 use Rattle.serial_sum.specs.Steps.{step_of}
 use Rattle.serial_sum.specs.declared.part.CellPart.{CellPart}
 use Rattle.serial_sum.specs.declared.sum.MatrixState.{MatrixState}
-use Rattle.sparsity.specs.declared.rows.Row.{Row}
 use Rattle.mesh_loop.specs.Setup.{MeshProblem, cells_of, pattern_of}
 use Rattle.mesh_loop.specs.Sum.{part_of, parts_of, IsWritten}
 use Rattle.mesh_loop.proofs.Held.{held_by}
 use Rattle.ordered_pipeline.specs.Fold as pipeline
-use Rattle.ordered_sum.specs.Chunks.{chunk_cells, state_after}
+use Rattle.ordered_sum.specs.Chunks.{chunks_of, chunk_cells, state_after}
 use Rattle.ordered_sum.proofs.Stretches.{chunks_reach}
 
 part_is : (s : MeshProblem) (cell : ℕ) (table : List (Option AffineLine)) (copy : Result (List LocalBlock) LocalFault) → table ≡ s.closed → copy ≡ cell_blocks s.flags s.given cell → part_of_blocks (lines_in table) cell copy ≡ part_of s cell
@@ -51,10 +49,6 @@ one_added digits s first k pattern table copy start before now is closed made so
     ∙ sym (fold-append (step_of digits (pattern_of s)) start parts (part ∷ []))
     ∙ sym (ap (fold (step_of digits (pattern_of s)) start) (map-range_with_len_more (part_of s) first k (first + k) refl))
 
--- rows of a state that is after these cells fit the pattern that was read
-pub fits_by : (pattern : List (List ℕ)) (s : MeshProblem) (rows : List Row) → pattern ≡ pattern_of s → FitsRows (pattern_of s) rows → FitsRows pattern rows
-fits_by pattern s rows is fits = let P : List (List ℕ) → Type 0 = λ p. FitsRows p rows in subst P (sym is) fits
-
 both_after : (digits : ℕ) (s : MeshProblem) (start : MatrixState) (cells more : List ℕ) → state_after digits s (state_after digits s start cells) more ≡ state_after digits s start (cells ++ more)
 both_after digits s start cells more =
     sym (fold-append (step_of digits (pattern_of s)) start (parts_of s cells) (parts_of s more))
@@ -77,8 +71,21 @@ module _ {J : Type 0} (step : J → MatrixState → ℕ → MatrixState) (job : 
       ∙ chunk_more digits s chunk n start
 
   -- after all its items it is that after all cells
-  pub all_after : ((state : MatrixState) (k : ℕ) → step job state k ≡ state_after digits s state (chunk_cells s chunk k)) → (start : MatrixState) (n : ℕ) → length s.given.forest.cells ≤ n * chunk →
+  all_after : ((state : MatrixState) (k : ℕ) → step job state k ≡ state_after digits s state (chunk_cells s chunk k)) → (start : MatrixState) (n : ℕ) → length s.given.forest.cells ≤ n * chunk →
       pipeline.fold step job start n ≡ state_after digits s start (cells_of s)
   all_after steps start n reach =
       let few : length (cells_of s) ≤ n * chunk = omega (arith, reach, length-range_with_len 0 (length s.given.forest.cells)) in
       chunks_after steps start n ∙ ap (state_after digits s start) (take_all (n * chunk) (cells_of s) few)
+
+-- a pipeline that copied all items of its key's job ends so
+pub all_ended : {J : Type 0} (step : J → MatrixState → ℕ → MatrixState) (count : J → ℕ) (job key : J) (digits : ℕ) (s : MeshProblem) (chunk : ℕ) (start first end : MatrixState) (copied : ℕ) →
+    ((state : MatrixState) (k : ℕ) → step job state k ≡ state_after digits s state (chunk_cells s chunk k)) → count job ≡ chunks_of s chunk → 0 < chunk → key ≡ job → first ≡ start → copied ≡ count key →
+    end ≡ pipeline.fold step key first copied → end ≡ state_after digits s start (cells_of s)
+all_ended step count job key digits s chunk start first end copied steps many some same from all ends =
+    let n : ℕ = length s.given.forest.cells in
+    let is : copied ≡ chunks_of s chunk = all ∙ ap count same ∙ many in
+    let P : ℕ → Type 0 = λ m. n ≤ m * chunk in
+    ends
+    ∙ ap (λ j. pipeline.fold step j first copied) same
+    ∙ ap (λ x. pipeline.fold step job x copied) from
+    ∙ all_after step job digits s chunk steps start copied (subst P (sym is) (chunks_reach n chunk some))

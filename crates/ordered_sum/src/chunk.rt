@@ -53,6 +53,8 @@ impl ChunkCopy {
         ensures made { take count self.new ≡ blocks_of setup.now (range_with_len first count) }
         ensures room { length self.new ≡ length self.old }
     {
+        // There are fewer than 2^32 cells, so no number of a cell wraps.
+        let _cells = setup.cells();
         for k in 0..count {
             setup.blocks_of(first + k, scratch, &mut self.copies[k as usize]);
         }
