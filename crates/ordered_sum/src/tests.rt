@@ -29,16 +29,16 @@ const STRIP: [Point; 6] = [
     Point { x: 2 * ONE, y: ONE },
 ];
 
-/// The same with the last corner pulled through the second cell, so that no order of its corners makes it convex.
-const FOLDED: [Point; 6] = [
+/// The same with the last corner drawn far into the second cell, which isn't convex then.
+const DENTED: [Point; 6] = [
     Point { x: 0, y: 0 },
     Point { x: ONE, y: 0 },
     Point { x: 2 * ONE, y: 0 },
     Point { x: 0, y: ONE },
     Point { x: ONE, y: ONE },
     Point {
-        x: -4 * ONE,
-        y: -4 * ONE,
+        x: ONE + 6554,
+        y: 6554,
     },
 ];
 
@@ -168,12 +168,12 @@ fn the_rows_are_those_of_the_serial_sum(rt: HostRuntime) -> Result<(), Fail> {
 
 #[test]
 fn the_first_cell_that_fails_is_told(rt: HostRuntime) -> Result<(), Fail> {
-    let folded = set_up(&rt, forest_on(&rt, &FOLDED)?)?;
+    let dented = set_up(&rt, forest_on(&rt, &DENTED)?)?;
     for (workers, queue, chunk) in [(1, 1, 1), (3, 2, 1), (3, 1, 2)] {
         let plan = plan_for(&rt, workers, queue, chunk);
-        let told = assemble_ordered(&rt, rt.alloc(), &folded, &plan, &OpenGate).err();
+        let told = assemble_ordered(&rt, rt.alloc(), &dented, &plan, &OpenGate).err();
         assert_eq!(rt; told, Some(AssembleFault::Local(1, LocalFault::Distorted)));
-        assert!(rt; is_serial(&rt, &folded, &plan, &OpenGate));
+        assert!(rt; is_serial(&rt, &dented, &plan, &OpenGate));
     }
     Ok(())
 }
