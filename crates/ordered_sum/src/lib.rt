@@ -9,8 +9,6 @@ mod chunk;
 mod crew;
 mod job;
 mod ordered;
-#[cfg(test)]
-mod tests;
 
 pub use chunk::ChunkCopy;
 pub use job::MatrixJob;
