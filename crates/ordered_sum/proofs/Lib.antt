@@ -1,0 +1,5 @@
+pub mod Stretches
+pub mod Copied
+pub mod Steps
+pub mod Ends
+pub mod Hands
