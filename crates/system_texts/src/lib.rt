@@ -5,5 +5,5 @@
 mod sums;
 mod targets;
 
-pub use sums::{plan_of, sum_rows};
+pub use sums::{sum_rows, sum_rows_by_pipeline};
 pub use targets::make_targets;

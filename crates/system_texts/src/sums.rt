@@ -1,6 +1,6 @@
 ghost use Rattle.std.specs.Prelude.{◌≡◌, ◌≤◌, Ok, IfOk, IfErr};
 ghost use Rattle.mesh_loop.specs.Plans.{IsWithinRanges as IsPlanWithin};
-ghost use Rattle.run_words.specs.declared.options.Mode.TheVariants.{Colored, Serial};
+ghost use Rattle.run_words.specs.declared.options.Mode.TheVariants.{Colored, Ordered, Serial};
 ghost use Rattle.run_words.specs.Choice.{seen};
 ghost use Rattle.run_words.specs.Ranges.{IsWithinRanges};
 ghost use Rattle.diagnostics.specs.Stages.{EndsIn};
@@ -11,10 +11,12 @@ use conflict_coloring::{Colors, color};
 use diagnostics::Ending;
 use fem_fixed::NoMemory;
 use mesh_loop::{Plan, Setup, assemble_serial, conflicts};
+use ordered_sum::assemble_ordered;
 use run_words::{Mode, Options};
 use scratch_pool::Gate;
 use sparsity::Rows;
 use std::alloc::Global;
+use std::sync::Wait;
 use std::thread::Threads;
 
 /// The rows of the sums of a system, where the mode has sums: by a loop over the cells, or colour by colour by
@@ -47,8 +49,33 @@ pub fn sum_rows<G: Gate + Sync, R: Threads + Sync>(
     }
 }
 
+/// The same, with a pipeline of several workers in the mode `ordered`. It may wait for another thread.
+///
+/// # Errors
+///
+/// As [`sum_rows`].
+pub fn sum_rows_by_pipeline<G: Gate + Sync, R: Threads + Wait + Sync>(
+    rt: &R,
+    alloc: Global,
+    options: &Options<'_>,
+    setup: &Setup,
+    gate: &G,
+) -> Result<Option<Rows>, Ending>
+    requires within { IsWithinRanges (seen options.now) }
+    ensures ok { IfOk result (λ rows. Summed options.now.mode options.now.digits setup.now (Ok rows)) }
+    ensures refused { IfErr result (EndsIn (Summed options.now.mode options.now.digits setup.now)) }
+{
+    match options.mode {
+        Mode::Ordered => match ordered_rows(rt, alloc, &plan_of(options), setup, gate) {
+            Ok(rows) => Ok(Some(rows)),
+            Err(ending) => Err(ending),
+        },
+        _ => sum_rows(rt, alloc, options, setup, gate),
+    }
+}
+
 /// How the workers go.
-pub fn plan_of(options: &Options<'_>) -> Plan
+fn plan_of(options: &Options<'_>) -> Plan
     requires within { IsWithinRanges (seen options.now) }
     ensures within { IsPlanWithin result }
     ensures digits { result.digits ≡ options.now.digits }
@@ -77,6 +104,24 @@ fn serial_rows(alloc: Global, digits: u32, setup: &Setup) -> Result<Rows, Ending
     ensures refused { IfErr result (EndsIn (SummedBy Serial digits setup.now)) }
 {
     match assemble_serial(alloc, setup, digits) {
+        Ok(rows) => Ok(rows),
+        Err(fault) => Err(Ending::from(fault)),
+    }
+}
+
+// The rows of the sum in the order of the cells, by a pipeline.
+fn ordered_rows<G: Gate + Sync, R: Threads + Wait + Sync>(
+    rt: &R,
+    alloc: Global,
+    plan: &Plan,
+    setup: &Setup,
+    gate: &G,
+) -> Result<Rows, Ending>
+    requires plan { IsPlanWithin plan.now }
+    ensures ok { IfOk result (λ rows. SummedBy Ordered plan.now.digits setup.now (Ok rows)) }
+    ensures refused { IfErr result (EndsIn (SummedBy Ordered plan.now.digits setup.now)) }
+{
+    match assemble_ordered(rt, alloc, setup, plan, gate) {
         Ok(rows) => Ok(rows),
         Err(fault) => Err(Ending::from(fault)),
     }
