@@ -10,8 +10,6 @@ mod laws;
 mod mesh_lines;
 mod nodes;
 mod refinement;
-#[cfg(test)]
-mod tests;
 mod ties;
 
 pub use closed_lines::constraint_lines;

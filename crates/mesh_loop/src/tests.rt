@@ -144,9 +144,12 @@ fn summed(alloc: Global, setup: &Setup) -> Option<Rows> {
     }
 }
 
-/// Whether the matrix has this entry.
-fn has_entry(setup: &Setup, rows: &Rows, i: u32, j: u32, value: i128) -> bool {
-    entry(setup.pattern(), rows, i, j) == value
+/// Whether the serial sum has this entry.
+fn has_entry(alloc: Global, setup: &Setup, i: u32, j: u32, value: i128) -> bool {
+    match summed(alloc, setup) {
+        Some(rows) => entry(setup.pattern(), &rows, i, j) == value,
+        None => false,
+    }
 }
 
 #[test]
@@ -164,9 +167,8 @@ fn a_cell_writes_the_rows_of_the_masters_of_its_hanging_corner(
 #[test]
 fn a_hanging_corner_adds_to_the_rows_of_its_masters(rt: HostRuntime) -> Result<(), Fail> {
     let setup = made(&rt).ok_or("a set-up")?;
-    let rows = summed(rt.alloc(), &setup).ok_or("a sum")?;
-    assert!(rt; has_entry(&setup, &rows, 5, 5, 5_726_681_536));
-    assert!(rt; has_entry(&setup, &rows, 1, 1, 6_442_494_800));
-    assert!(rt; has_entry(&setup, &rows, 1, 3, -43_856));
+    assert!(rt; has_entry(rt.alloc(), &setup, 5, 5, 5_726_681_536));
+    assert!(rt; has_entry(rt.alloc(), &setup, 1, 1, 6_442_494_800));
+    assert!(rt; has_entry(rt.alloc(), &setup, 1, 3, -43_856));
     Ok(())
 }
