@@ -7,7 +7,6 @@ ghost use Rattle.dof_numbers.specs.Dofs.{IsNumberingOf};
 ghost use Rattle.sparsity.specs.Coupled.{pairs_of};
 ghost use Rattle.sparsity.specs.declared.fault.PatternFault.TheVariants.{Limit as AboveLimit};
 ghost use Rattle.mesh_loop.specs.Setup.{MeshProblem, cell_visits, coupled_dofs, pattern_of, written_rows, HoldsVisit};
-
 ghost use Rattle.mesh_loop.specs.Sum.{IsWritten};
 
 use crate::gather::{Parts, make_parts};
