@@ -8,8 +8,8 @@ use Rattle.assemble_core.specs.Modes.{plain_modes}
 use Rattle.assemble_core.specs.Answer.{AreRefused}
 
 -- they ask for nothing
-pub none_refused : (words : List (List ℕ)) → AskForNothing words → AreRefused plain_modes words
-none_refused words none choice asked = absurd (none choice asked)
+pub none_refused : (takes : Mode → Bool) (words : List (List ℕ)) → AskForNothing words → AreRefused takes words
+none_refused takes words none choice asked = absurd (none choice asked)
 
 -- they ask for a mode that is not taken
 pub other_refused : (words : List (List ℕ)) (choice : Choice) → AskFor words choice → plain_modes choice.mode ≡ false → AreRefused plain_modes words

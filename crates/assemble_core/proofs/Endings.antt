@@ -1,5 +1,5 @@
 -- How runs end.
-use Rattle.std.proofs.Common.{◌≡◌, ◌∙◌, sym, ap, refl, subst, ℕ, List, Bool, true, false, inl, inr, map}
+use Rattle.std.proofs.Common.{◌≡◌, ◌∙◌, sym, ap, refl, subst, ℕ, List, Bool, true, false, inl, inr, map, length, ◌≤◌}
 use Rattle.std.specs.Prelude.{Some, None, Ok, Err, IfOk, IfErr, OnOk, ◌⊎◌}
 use Rattle.std.specs.declared.option.Option.{Option}
 use Rattle.std.specs.declared.result.Result.{Result}
@@ -20,21 +20,15 @@ use Rattle.diagnostics.specs.declared.refusal.Refusal.TheVariants.{Words}
 use Rattle.diagnostics.specs.declared.ending.Ending.{Ending}
 use Rattle.diagnostics.specs.declared.ending.Ending.TheVariants.{Refused, ReadFault, WriteFault, NoMemory}
 use Rattle.diagnostics.specs.Stages.{Then, stops, goes, EndsIn}
-use Rattle.diagnostics.proofs.StageLaws.{ends_next}
-use Rattle.assemble_core.specs.Answer.{Asked, Assembled, Defines, Answers}
-use Rattle.assemble_core.specs.Run.{EndsDefining, IsUntouched, IsReadFault, StopsWriting, Leaves}
-
-module _ {X Y Z : Type 0} where
-  -- a result behind a step that went well
-  pub behind_ok : (first : Result X Refusal → Type 0) (next : X → Result Y Refusal → Type 0) (f : Z → Y) (x : X) (result : Result Z Ending) → first (Ok x) →
-      IfOk result (λ z. next x (Ok (f z))) → IfOk result (λ z. Then first next (Ok (f z)))
-  behind_ok first next f x (Ok z) went h = goes x went h
-  behind_ok first next f x (Err e) went h = tt
-
-  pub behind_ends : (first : Result X Refusal → Type 0) (next : X → Result Y Refusal → Type 0) (x : X) (result : Result Z Ending) → first (Ok x) →
-      IfErr result (EndsIn (next x)) → IfErr result (EndsIn (Then first next))
-  behind_ends first next x (Ok z) went h = tt
-  behind_ends first next x (Err e) went h = ends_next first next x e went h
+use Rattle.system_setup.specs.SetUp.{IsSetUp}
+use Rattle.system_texts.specs.Sums.{Summed}
+use Rattle.system_texts.specs.Texts.{AreTargets}
+use Rattle.sparsity.specs.declared.rows.Row.{Row}
+use Rattle.mesh_loop.specs.Setup.{MeshProblem, pattern_of}
+use Rattle.std.specs.List.{concat}
+use Rattle.assemble_core.proofs.Setups.{few_entries}
+use Rattle.assemble_core.specs.Answer.{interior_of, Asked, Assembled, Defines, Answers}
+use Rattle.assemble_core.specs.Run.{Prepared, EndsDefining, IsUntouched, IsReadFault, StopsWriting, Leaves}
 
 -- the reading ends the making of the texts
 pub read_defining : (holds : Option Held) (choice : Choice) (e : Ending) → EndsReading holds choice.source e → EndsDefining holds choice e
@@ -43,24 +37,62 @@ read_defining holds choice (ReadFault role) h = h
 read_defining holds choice (WriteFault output) h = h
 read_defining holds choice NoMemory h = h
 
-assembled_defining : (holds : Option Held) (choice : Choice) (read : Mesh × ProblemParts) (e : Ending) → SourceRead holds choice.source (Ok read) → EndsIn (Assembled choice read) e → EndsDefining holds choice e
-assembled_defining holds choice read (Refused refusal) r h = goes read r h
-assembled_defining holds choice read (ReadFault role) r h = absurd h
-assembled_defining holds choice read (WriteFault output) r h = h
-assembled_defining holds choice read NoMemory r h = h
+abbrev SetUpOf : Choice → (Mesh × ProblemParts) → Result MeshProblem Refusal → Type 0
+SetUpOf choice read = IsSetUp (interior_of choice.faces) read.0 read.1
 
--- what is assembled ends it behind the reading
-pub result_defining : {X : Type 0} (holds : Option Held) (choice : Choice) (read : Mesh × ProblemParts) (result : Result X Ending) → SourceRead holds choice.source (Ok read) →
-    IfErr result (EndsIn (Assembled choice read)) → IfErr result (EndsDefining holds choice)
-result_defining holds choice read (Ok x) r h = tt
-result_defining holds choice read (Err e) r h = assembled_defining holds choice read e r h
+set_up_defining : (holds : Option Held) (choice : Choice) (read : Mesh × ProblemParts) (e : Ending) → SourceRead holds choice.source (Ok read) → EndsIn (SetUpOf choice read) e → EndsDefining holds choice e
+set_up_defining holds choice read (Refused refusal) r h = goes read r (stops refusal h refl)
+set_up_defining holds choice read (ReadFault role) r h = absurd h
+set_up_defining holds choice read (WriteFault output) r h = h
+set_up_defining holds choice read NoMemory r h = h
 
-pub no_read_fault : {X Y : Type 0} (step : Result X Refusal → Type 0) (result : Result Y Ending) → IfErr result (EndsIn step) → is_read_fault result ≡ false
-no_read_fault step (Ok value) h = refl
-no_read_fault step (Err (Refused refusal)) h = refl
-no_read_fault step (Err (ReadFault role)) h = absurd h
-no_read_fault step (Err (WriteFault output)) h = refl
-no_read_fault step (Err NoMemory) h = refl
+-- the set-up ends it behind the reading
+pub result_defining : (holds : Option Held) (choice : Choice) (read : Mesh × ProblemParts) (result : Result MeshProblem Ending) → SourceRead holds choice.source (Ok read) →
+    IfErr result (EndsIn (SetUpOf choice read)) → IfErr result (EndsDefining holds choice)
+result_defining holds choice read (Ok s) r h = tt
+result_defining holds choice read (Err e) r h = set_up_defining holds choice read e r h
+
+pub result_prepared : (holds : Option Held) (choice : Choice) (read : Mesh × ProblemParts) (result : Result MeshProblem Ending) → SourceRead holds choice.source (Ok read) →
+    IfOk result (λ s. SetUpOf choice read (Ok s)) → IfOk result (Prepared holds choice)
+result_prepared holds choice read (Ok s) r h = (read, r, h)
+result_prepared holds choice read (Err e) r h = tt
+
+pub result_few : (choice : Choice) (read : Mesh × ProblemParts) (result : Result MeshProblem Ending) → IfOk result (λ s. SetUpOf choice read (Ok s)) →
+    IfOk result (λ s. length (concat (pattern_of s)) ≤ 33554432)
+result_few choice read (Ok s) h = few_entries (interior_of choice.faces) read.0 read.1 s h
+result_few choice read (Err e) h = tt
+
+-- the sums end it
+pub sums_defining : (holds : Option Held) (choice : Choice) (s : MeshProblem) (e : Ending) → Prepared holds choice s → EndsIn (Summed choice.mode choice.digits s) e → EndsDefining holds choice e
+sums_defining holds choice s (Refused refusal) (read, r, is) h = goes read r (goes s is (stops refusal h refl))
+sums_defining holds choice s (ReadFault role) p h = absurd h
+sums_defining holds choice s (WriteFault output) p h = h
+sums_defining holds choice s NoMemory p h = h
+
+-- the texts of the sums are what the choice defines
+pub texts_defined : {X : Type 0} (holds : Option Held) (choice : Choice) (s : MeshProblem) (rows : Option (List Row)) (f : X → List Target) (result : Result X Ending) → Prepared holds choice s →
+    Summed choice.mode choice.digits s (Ok rows) → IfOk result (λ x. AreTargets choice.mode choice.output s rows (f x)) → IfOk result (λ x. Defines holds choice (Ok (f x)))
+texts_defined holds choice s rows f (Ok x) (read, r, is) sum h = goes read r (goes s is (goes rows sum h))
+texts_defined holds choice s rows f (Err e) p sum h = tt
+
+pub want_defining : {X : Type 0} (holds : Option Held) (choice : Choice) (result : Result X Ending) → IfErr result (λ e. e ≡ NoMemory) → IfErr result (EndsDefining holds choice)
+want_defining holds choice (Ok x) h = tt
+want_defining holds choice (Err e) h = subst (EndsDefining holds choice) (sym h) tt
+
+-- a step without a read ends behind reads that went well
+pub calls_behind : (X : Type 0) {Y : Type 0} (step : Result Y Refusal → Type 0) (e : Ending) (before now : Counts) → EndsIn step e → AllWell before now → CallsEnd (is_read_fault {X = X} (Err e)) before now
+calls_behind X step (Refused refusal) before now h well = well
+calls_behind X step (ReadFault role) before now h well = absurd h
+calls_behind X step (WriteFault output) before now h well = well
+calls_behind X step NoMemory before now h well = well
+
+pub result_calls : {X Y : Type 0} (step : Result Y Refusal → Type 0) (result : Result X Ending) (before now : Counts) → IfErr result (EndsIn step) → AllWell before now → CallsEnd (is_read_fault result) before now
+result_calls {X} step (Ok value) before now h well = well
+result_calls {X} step (Err e) before now h well = calls_behind X step e before now h well
+
+pub want_calls : {X : Type 0} (result : Result X Ending) (before now : Counts) → IfErr result (λ e. e ≡ NoMemory) → AllWell before now → CallsEnd (is_read_fault result) before now
+want_calls {X} (Ok value) before now h well = well
+want_calls {X} (Err e) before now h well = subst (λ e. CallsEnd (is_read_fault {X = X} (Err e)) before now) (sym h) well
 
 -- the words are refused
 pub words_leave : (takes : Mode → Bool) (words : List (List ℕ)) (before : World) (calls : Calls) → Asked takes words (Err Words) → Leaves takes words before calls before calls (Err (Refused Words))

@@ -10,3 +10,7 @@ plain_modes modes.Colored = true
 plain_modes modes.Pattern = true
 plain_modes modes.Colors = true
 plain_modes modes.Ordered = false
+
+-- those of a run that may wait
+abbrev pub all_modes : Mode → Bool
+all_modes mode = true

@@ -3,12 +3,15 @@ use Rattle.std.specs.Prelude.{◌≡◌, ◌⊎◌, ℕ, List, [], ◌∷◌, Bo
 use Rattle.std.specs.declared.option.Option.{Option}
 use Rattle.std.specs.declared.result.Result.{Result}
 use Rattle.std.specs.List.{list_any}
+use Rattle.fem_fixed.specs.Mesh.{Mesh}
+use Rattle.mesh_loop.specs.Setup.{MeshProblem}
+use Rattle.problem_read.specs.Entries.{ProblemParts}
 use Rattle.fem_text.specs.declared.counts.Counts.{Counts}
 use Rattle.fem_text.specs.Counts.{AllWell, EndsInFault}
 use Rattle.fem_text.specs.Outside.{Held}
 use Rattle.run_words.specs.declared.options.Mode.{Mode}
 use Rattle.run_words.specs.Choice.{Choice}
-use Rattle.run_texts.specs.Read.{GoesOnTo}
+use Rattle.run_texts.specs.Read.{SourceRead, GoesOnTo}
 use Rattle.run_outputs.specs.Targets.{Target, World, after_targets}
 use Rattle.run_outputs.specs.Stops.{Calls, AllCallsWell, StopsAmong}
 use Rattle.diagnostics.specs.declared.ending.Role.{Role}
@@ -16,7 +19,12 @@ use Rattle.diagnostics.specs.declared.ending.Output.{Output}
 use Rattle.diagnostics.specs.declared.ending.Ending.{Ending}
 use Rattle.diagnostics.specs.declared.ending.Ending.TheVariants.{Refused, ReadFault, WriteFault, NoMemory}
 use Rattle.diagnostics.specs.Lines.{ending_status, ending_line, TookLine}
-use Rattle.assemble_core.specs.Answer.{Asked, Defines, Answers}
+use Rattle.system_setup.specs.SetUp.{IsSetUp}
+use Rattle.assemble_core.specs.Answer.{interior_of, Asked, Defines, Answers}
+
+-- the set-up of a choice, over a store that holds this
+abbrev pub Prepared : Option Held → Choice → MeshProblem → Type 0
+Prepared holds choice s = (read : Mesh × ProblemParts) × SourceRead holds choice.source (Ok read) × IsSetUp (interior_of choice.faces) read.0 read.1 (Ok s)
 
 -- the making of the texts of a choice ends so
 abbrev pub EndsDefining : Option Held → Choice → Ending → Type 0

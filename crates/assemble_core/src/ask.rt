@@ -2,7 +2,7 @@ ghost use Rattle.std.specs.Prelude.{◌≡◌, map, string_bytes, IfSome, IfNone
 ghost use Rattle.run_words.specs.Choice.{seen};
 ghost use Rattle.run_words.specs.Ranges.{IsWithinRanges};
 ghost use Rattle.diagnostics.specs.declared.refusal.Refusal.TheVariants.{Words};
-ghost use Rattle.assemble_core.specs.Modes.{plain_modes};
+ghost use Rattle.assemble_core.specs.Modes.{plain_modes, all_modes};
 ghost use Rattle.assemble_core.specs.Answer.{Asked};
 
 use run_words::{Mode, Options, choices_are_within, read_words};
@@ -23,6 +23,19 @@ pub(crate) fn plain_options(words: &[String]) -> Option<Options<'_>>
                 None
             }
         }
+        None => None,
+    }
+}
+
+/// What the words ask of a run that may wait.
+pub(crate) fn all_options(words: &[String]) -> Option<Options<'_>>
+    ensures asked { IfSome result (λ options. Asked all_modes (map string_bytes words.now) (Ok (seen options))) }
+    ensures within { IfSome result (λ options. IsWithinRanges (seen options)) }
+    ensures refused { IfNone result (Asked all_modes (map string_bytes words.now) (Err Words)) }
+{
+    choices_are_within();
+    match read_words(words) {
+        Some(options) => Some(options),
         None => None,
     }
 }

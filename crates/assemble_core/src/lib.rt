@@ -4,8 +4,8 @@
 
 mod ask;
 mod program;
-mod run;
+mod top;
 mod work;
 
 pub use program::run_program;
-pub use run::run_plain;
+pub use top::{run, run_plain};

@@ -1,17 +1,19 @@
 ghost use Rattle.std.specs.Prelude.{◌≡◌, true};
 ghost use Rattle.assemble_core.specs.Run.{is_status};
 
-use crate::run_plain;
+use crate::{run, run_plain};
 use fem_text::{DiskStore, StdSink, Streams};
+use run_words::wants_wait;
 use scratch_pool::OpenGate;
 use std::env;
 use std::io::ErrorKind;
 use std::rt::Runtime;
+use std::sync::Wait;
 use std::thread::Threads;
 
 /// Runs the program on the words of its command line, over files and the standard streams, and answers the status.
 /// Where a word isn't text the status is 2, where memory runs out for the words it is 12, and nothing is printed.
-pub fn run_program<R: Runtime + AllocGlobal + Threads + Sync + Streams>(rt: &R) -> u8
+pub fn run_program<R: Runtime + AllocGlobal + Threads + Wait + Sync + Streams>(rt: &R) -> u8
     ensures { is_status result ≡ true }
 {
     let alloc = rt.alloc();
@@ -26,13 +28,10 @@ pub fn run_program<R: Runtime + AllocGlobal + Threads + Sync + Streams>(rt: &R) 
     let mut store = DiskStore::new(rt);
     let mut out = StdSink::new(rt, false);
     let mut err = StdSink::new(rt, true);
-    run_plain(
-        rt,
-        alloc,
-        words.as_slice(),
-        &mut store,
-        &mut out,
-        &mut err,
-        &OpenGate,
-    )
+    let words = words.as_slice();
+    if wants_wait(words) {
+        run(rt, alloc, words, &mut store, &mut out, &mut err, &OpenGate)
+    } else {
+        run_plain(rt, alloc, words, &mut store, &mut out, &mut err, &OpenGate)
+    }
 }

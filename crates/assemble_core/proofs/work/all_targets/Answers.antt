@@ -1,20 +1,25 @@
-use Rattle.std.proofs.Common.{map}
-use Rattle.std.specs.Prelude.{Ok}
+use Rattle.std.proofs.Common.{map, Vec, Global}
 use Rattle.run_words.specs.Choice.{seen}
-use Rattle.run_texts.specs.Read.{SourceRead}
+use Rattle.run_outputs.specs.declared.target.Target.{Target}
 use Rattle.run_outputs.specs.Targets.{seen_target}
-use Rattle.assemble_core.specs.Answer.{Assembled}
-use Rattle.assemble_core.proofs.Endings.{read_defining, result_defining, behind_ok}
+use Rattle.system_texts.specs.Sums.{Summed}
+use Rattle.assemble_core.proofs.Endings.{sums_defining, texts_defined, want_defining, calls_behind, want_calls}
 use Rattle.assemble_core.proofs.work.all_targets.Goals as goal
 
-pub returns-in-Err-clause-ends : goal.returns-in-Err-clause-ends
-returns-in-Err-clause-ends g c = read_defining (g.S.Store.holds c.args.store.now) (seen c.args.options.now) c.in-Err.ending c.in-Err.ensures.ends
+pub returns-in-Err-sum_rows_by_pipeline-clause-ends : goal.returns-in-Err-sum_rows_by_pipeline-clause-ends
+returns-in-Err-sum_rows_by_pipeline-clause-ends g c = sums_defining (g.S.Store.holds c.args.store.now) (seen c.args.options.now) c.in-Ok.setup c.in-Err-sum_rows_by_pipeline.ending c.in-Ok.ensures.ok c.in-Err-sum_rows_by_pipeline.ensures.refused
+
+pub returns-in-Err-sum_rows_by_pipeline-clause-calls : goal.returns-in-Err-sum_rows_by_pipeline-clause-calls
+returns-in-Err-sum_rows_by_pipeline-clause-calls g c =
+    calls_behind (Vec Target Global) (Summed c.args.options.now.mode c.args.options.now.digits c.in-Ok.setup) c.in-Err-sum_rows_by_pipeline.ending (g.S.Store.counts c.args.store.now) (g.S.Store.counts c.prepare.new.store)
+    c.in-Err-sum_rows_by_pipeline.ensures.refused c.in-Ok.ensures.calls
 
 pub returns-clause-ok : goal.returns-clause-ok
 returns-clause-ok g c =
-    behind_ok (SourceRead (g.S.Store.holds c.args.store.now) (seen c.args.options.now).source) (Assembled (seen c.args.options.now)) (λ targets. map seen_target targets.items)
-    (c.in-Ok.read.0, c.in-Ok.read.1) c.targets_for.result c.in-Ok.ensures.ok c.targets_for.ensures.ok
+    texts_defined (g.S.Store.holds c.args.store.now) (seen c.args.options.now) c.in-Ok.setup c.in-Ok-sum_rows_by_pipeline.rows (λ targets. map seen_target targets.items) c.finish.result c.in-Ok.ensures.ok c.in-Ok-sum_rows_by_pipeline.ensures.ok c.finish.ensures.ok
 
 pub returns-clause-ends : goal.returns-clause-ends
-returns-clause-ends g c =
-    result_defining (g.S.Store.holds c.args.store.now) (seen c.args.options.now) (c.in-Ok.read.0, c.in-Ok.read.1) c.targets_for.result c.in-Ok.ensures.ok c.targets_for.ensures.refused
+returns-clause-ends g c = want_defining (g.S.Store.holds c.args.store.now) (seen c.args.options.now) c.finish.result c.finish.ensures.ends
+
+pub returns-clause-calls : goal.returns-clause-calls
+returns-clause-calls g c = want_calls c.finish.result (g.S.Store.counts c.args.store.now) (g.S.Store.counts c.prepare.new.store) c.finish.ensures.ends c.in-Ok.ensures.calls

@@ -1,15 +1,16 @@
 ghost use Rattle.std.specs.Prelude.{◌≡◌, map, string_bytes};
-ghost use Rattle.assemble_core.specs.Modes.{plain_modes};
+ghost use Rattle.assemble_core.specs.Modes.{plain_modes, all_modes};
 ghost use Rattle.assemble_core.specs.Run.{Leaves, IsRun};
 
-use crate::ask::plain_options;
-use crate::work::all_targets;
+use crate::ask::{all_options, plain_options};
+use crate::work::{all_targets, plain_targets};
 use diagnostics::{Ending, Refusal};
 use fem_text::{Sink, Store};
 use run_outputs::write_targets;
 use scratch_pool::Gate;
 use std::alloc::Global;
 use std::rt::Runtime;
+use std::sync::Wait;
 use std::thread::Threads;
 
 /// The program: reads the mesh and the problem that the words name, or generates them, and writes what the words
@@ -48,6 +49,31 @@ pub fn run_plain<R: Runtime + Threads + Sync, S: Store, K: Sink, G: Gate + Sync>
         (record { world = record { holds = S.holds store.new; taken = K.taken out.new }; calls = record { store = S.counts store.new; out = K.counts out.new }; told = K.taken err.new; tells = K.counts err.new })
         result }
 {
+    match plain_work(rt, alloc, words, store, out, gate) {
+        Ok(()) => 0,
+        Err(ending) => {
+            ending.put_line(err);
+            ending.status()
+        }
+    }
+}
+
+/// The program with the mode `ordered`, in which it may wait for another thread: what it leaves is said of a run that
+/// returns. All else is as [`run_plain`] has it.
+pub fn run<R: Runtime + Threads + Wait + Sync, S: Store, K: Sink, G: Gate + Sync>(
+    rt: &R,
+    alloc: Global,
+    words: &[String],
+    store: &mut S,
+    out: &mut K,
+    err: &mut K,
+    gate: &G,
+) -> u8
+    ensures { IsRun all_modes (map string_bytes words.now)
+        (record { world = record { holds = S.holds store.old; taken = K.taken out.old }; calls = record { store = S.counts store.old; out = K.counts out.old }; told = K.taken err.old; tells = K.counts err.old })
+        (record { world = record { holds = S.holds store.new; taken = K.taken out.new }; calls = record { store = S.counts store.new; out = K.counts out.new }; told = K.taken err.new; tells = K.counts err.new })
+        result }
+{
     match work(rt, alloc, words, store, out, gate) {
         Ok(()) => 0,
         Err(ending) => {
@@ -58,7 +84,7 @@ pub fn run_plain<R: Runtime + Threads + Sync, S: Store, K: Sink, G: Gate + Sync>
 }
 
 // Reads, assembles and writes.
-fn work<R: Runtime + Threads + Sync, S: Store, K: Sink, G: Gate + Sync>(
+fn plain_work<R: Runtime + Threads + Sync, S: Store, K: Sink, G: Gate + Sync>(
     rt: &R,
     alloc: Global,
     words: &[String],
@@ -72,6 +98,30 @@ fn work<R: Runtime + Threads + Sync, S: Store, K: Sink, G: Gate + Sync>(
         result }
 {
     let Some(options) = plain_options(words) else {
+        return Err(Ending::Refused(Refusal::Words));
+    };
+    let targets = match plain_targets(rt, alloc, &options, store, gate) {
+        Ok(targets) => targets,
+        Err(ending) => return Err(ending),
+    };
+    write_targets(alloc, targets.as_slice(), store, out)
+}
+
+// The same, and it may wait.
+fn work<R: Runtime + Threads + Wait + Sync, S: Store, K: Sink, G: Gate + Sync>(
+    rt: &R,
+    alloc: Global,
+    words: &[String],
+    store: &mut S,
+    out: &mut K,
+    gate: &G,
+) -> Result<(), Ending>
+    ensures { Leaves all_modes (map string_bytes words.now)
+        (record { holds = S.holds store.old; taken = K.taken out.old }) (record { store = S.counts store.old; out = K.counts out.old })
+        (record { holds = S.holds store.new; taken = K.taken out.new }) (record { store = S.counts store.new; out = K.counts out.new })
+        result }
+{
+    let Some(options) = all_options(words) else {
         return Err(Ending::Refused(Refusal::Words));
     };
     let targets = match all_targets(rt, alloc, &options, store, gate) {
