@@ -74,11 +74,11 @@ fn quad(corners: [u32; 4]) -> QuadSpec {
     }
 }
 
-fn forest<R: Abort + AllocGlobal>(
+fn coarse<R: Abort + AllocGlobal>(
     rt: &R,
     points: &[Point],
     quads: &[QuadSpec],
-) -> Result<Forest, Fail> {
+) -> Result<QuadMesh, Fail> {
     let points = points.to_vec(rt.alloc())?;
     let quads = quads.to_vec(rt.alloc())?;
     assert!(rt; are_within_reach(&points));
@@ -87,8 +87,7 @@ fn forest<R: Abort + AllocGlobal>(
     let mesh = QuadMesh::new(rt.alloc(), points, quads, Vec::new(rt.alloc()))
         .ok()
         .ok_or("a mesh")?;
-    let forest = Forest::of(rt.alloc(), mesh).ok().ok_or("a forest")?;
-    Ok(forest)
+    Ok(mesh)
 }
 
 fn are_within_reach(points: &[Point]) -> bool
@@ -188,10 +187,9 @@ fn set_up<R: Abort + Threads + Sync + AllocGlobal>(
     points: &[Point],
     quads: &[QuadSpec],
 ) -> Result<Setup, Fail> {
-    match forest(rt, points, quads) {
-        Ok(forest) => on_forest(rt, forest),
-        Err(fail) => Err(fail),
-    }
+    let mesh = coarse(rt, points, quads)?;
+    let forest = Forest::of(rt.alloc(), mesh).ok().ok_or("a forest")?;
+    on_forest(rt, forest)
 }
 
 fn strip_of_two<R: Abort + Threads + Sync + AllocGlobal>(rt: &R) -> Result<Setup, Fail> {
