@@ -1,5 +1,5 @@
 -- A round of the cells of a colour, as the loop over the colours sees it.
-use Rattle.std.proofs.Common.{◌≡◌, ◌∙◌, sym, ap, subst, ℕ, ◌+◌, ◌-◌, ◌<◌, ◌≤◌, List, length, arith, slice_index, Some, None, Ok}
+use Rattle.std.proofs.Common.{◌≡◌, ◌∙◌, sym, ap, subst, ℕ, ◌+◌, ◌-◌, ◌<◌, List, length, arith, slice_index, Some, None, Ok}
 use Rattle.std.specs.List.{All}
 use Rattle.conflict_coloring.specs.Coloring.{Coloring, IsColoring, color_count}
 use Rattle.conflict_coloring.specs.Colours.{coloured}

@@ -9,11 +9,10 @@ use Rattle.std.proofs.lemmas.List.Sums.{fold-append}
 use Rattle.conflict_coloring.specs.Cut.{part}
 use Rattle.sparsity.specs.Rows.{zero_row}
 use Rattle.sparsity.specs.declared.rows.Row.{Row}
-use Rattle.sparsity.specs.declared.rows.Mark.{Mark}
-use Rattle.serial_sum.specs.Rows.{row_at, no_row, AreUnmarked}
+use Rattle.serial_sum.specs.Rows.{row_at, AreUnmarked}
 use Rattle.serial_sum.specs.SerialSum.{SumIs}
 use Rattle.serial_sum.specs.Steps.{step_of, zero_state, result_of, answer_of, failure_fault, FaultIs, IsPartFor}
-use Rattle.serial_sum.specs.Marks.{RoundItem, IsFirstMark, failure_of, Tells, round_end, RoundIs}
+use Rattle.serial_sum.specs.Marks.{RoundItem, Tells, round_end, RoundIs}
 use Rattle.serial_sum.specs.declared.part.CellPart.{CellPart}
 use Rattle.serial_sum.specs.declared.sum.Failure.{Failure}
 use Rattle.serial_sum.specs.declared.sum.MatrixState.{MatrixState}
@@ -21,7 +20,7 @@ use Rattle.serial_sum.proofs.StateLaws.{steps_give, fault_says, failure_stays}
 use Rattle.mesh_loop.specs.Setup.{MeshProblem, pattern_of}
 use Rattle.mesh_loop.specs.Sum.{part_of, parts_of, IsWritten}
 use Rattle.mesh_loop.proofs.Summing.{state_at, pattern_rises}
-use Rattle.colored_sum.specs.Rounds.{item_of, items_of}
+use Rattle.colored_sum.specs.Rounds.{items_of}
 
 -- the state after the first n cells of the order
 unfoldable pub before : ℕ → MeshProblem → List ℕ → ℕ → MatrixState

@@ -1,12 +1,12 @@
 -- What a round of cells does to all rows.
-use Rattle.std.proofs.Common.{◌≡◌, ◌∙◌, sym, ap, ap₂, subst, refl, ℕ, zero, suc, ◌+◌, ◌<◌, ◌≤◌, ◌^◌, inl, inr, Bool, true, false, List, [], ◌∷◌, length, map, arith, get_or, slice_index, slice_index_or, None}
-use Rattle.std.specs.List.{All, range_with_len}
+use Rattle.std.proofs.Common.{◌≡◌, ◌∙◌, sym, ap, ap₂, subst, refl, ℕ, zero, suc, ◌+◌, ◌<◌, ◌≤◌, ◌^◌, inl, inr, Bool, true, false, List, [], ◌∷◌, length, map, arith, get_or, slice_index, None}
+use Rattle.std.specs.List.{range_with_len}
 use Rattle.std.proofs.lemmas.Bool.{cases_Bool, cases_lt}
 use Rattle.std.proofs.lemmas.List.{ext_get_or, get_or_past, length-map}
 use Rattle.std.proofs.lemmas.List.FromFn.{get_or-range_with_len, length-range_with_len}
 use mathlib.Core.Option.{some}
 use lib.ListN.{get_elem?}
-use Rattle.colored_copier.specs.Plans.{In, Rise, row_number}
+use Rattle.colored_copier.specs.Plans.{In, Rise}
 use Rattle.colored_copier.specs.Conditions.{Suits, Worked}
 use Rattle.sparsity.specs.Coupled.{has}
 use Rattle.sparsity.specs.Rows.{rows_in, AreNumbered}
@@ -16,7 +16,7 @@ use Rattle.serial_sum.specs.Rows.{row_at, no_row, FitsRow, FitsRows}
 use Rattle.serial_sum.specs.Marks.{RoundItem, item_at, AreItems, IsRound, row_after}
 use Rattle.serial_sum.specs.declared.part.CellPart.{CellPart}
 use Rattle.mesh_loop.specs.Setup.{MeshProblem, pattern_of, written_rows}
-use Rattle.mesh_loop.specs.Sum.{part_of, parts_of}
+use Rattle.mesh_loop.specs.Sum.{parts_of}
 use Rattle.serial_sum.specs.SerialSum.{part_at}
 use Rattle.colored_sum.specs.RowFits.{part_fits}
 use Rattle.mesh_loop.proofs.Kept.{written_rise}

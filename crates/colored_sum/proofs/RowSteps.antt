@@ -1,11 +1,7 @@
 -- One row after a cell of a round.
-use Rattle.std.proofs.Common.{◌≡◌, ◌∙◌, sym, ap, subst, refl, ℕ, zero, suc, ◌<◌, ◌≤◌, inl, inr, List, [], ◌∷◌, length, map, arith, slice_index, slice_index_or, None}
-use Rattle.std.specs.List.{All}
+use Rattle.std.proofs.Common.{◌≡◌, ◌∙◌, sym, ap, subst, refl, ℕ, zero, suc, ◌<◌, List, [], ◌∷◌, length, map, arith, slice_index, slice_index_or, None}
 use Rattle.std.specs.declared.option.Option.{Option}
 use Rattle.std.specs.declared.result.Result.{Result}
-use Rattle.std.proofs.lemmas.Bool.{cases_lt}
-use Rattle.std.proofs.lemmas.List.{get_or_past, get_or_default, length-map}
-use Rattle.std.proofs.lemmas.List.Elements.{All-nil}
 use Rattle.affine_constraints.specs.Lines.{AffineLine, lines_in}
 use Rattle.cell_blocks.specs.Blocks.{cell_blocks}
 use Rattle.cell_blocks.specs.Visited.{blocks_in}
@@ -13,14 +9,10 @@ use Rattle.cell_sums.specs.Parts.{part_of_blocks, HoldsAll}
 use Rattle.fixed_q1.specs.declared.fault.LocalFault.{LocalFault}
 use Rattle.local_blocks.specs.Blocks.{LocalBlock}
 use Rattle.serial_sum.specs.Columns.{columns_at}
-use Rattle.serial_sum.specs.Rows.{FitsRow, IsFor}
+use Rattle.serial_sum.specs.Rows.{FitsRow}
 use Rattle.serial_sum.specs.Marks.{row_after}
 use Rattle.serial_sum.specs.SerialSum.{part_at}
-use Rattle.serial_sum.specs.Steps.{IsForRow, IsPartFor}
 use Rattle.serial_sum.specs.declared.part.CellPart.{CellPart}
-use Rattle.serial_sum.specs.declared.part.Contribution.{Contribution}
-use Rattle.serial_sum.proofs.FirstMarks.{row_after_fits}
-use Rattle.serial_sum.proofs.RowStepLaws.{part_for_row}
 use Rattle.sparsity.specs.declared.rows.Row.{Row}
 use Rattle.mesh_loop.specs.Setup.{MeshProblem, pattern_of}
 use Rattle.mesh_loop.specs.Sum.{part_of, parts_of, IsWritten}

@@ -9,7 +9,7 @@ use Rattle.sparsity.specs.declared.rows.MarkKind.TheVariants as kinds
 use Rattle.serial_sum.specs.Columns.{place}
 use Rattle.serial_sum.specs.Rows.{FitsRow, entry_of, added_row, next}
 use Rattle.serial_sum.specs.Steps.{RowRun, row_one, row_own, row_step}
-use Rattle.serial_sum.specs.Marks.{kind_of, marked, after_run_of, row_after, row_after_fault}
+use Rattle.serial_sum.specs.Marks.{kind_of, marked, row_after, row_after_fault}
 use Rattle.serial_sum.specs.declared.part.Target.{Target}
 use Rattle.serial_sum.specs.declared.part.Target.TheVariants.{Column, RightSide}
 use Rattle.serial_sum.specs.declared.part.Contribution.{Contribution}

@@ -12,7 +12,7 @@ use fem_fixed::{Point, QuadSpec};
 use fixed_q1::LocalFault;
 use hanging_refine::Forest;
 use mesh_loop::{AssembleFault, Flags, Interior, Plan, Setup, assemble_serial, conflicts};
-use problem_read::read_problem;
+use problem_read::{Problem, read_problem};
 use quad_mesh::QuadMesh;
 use scratch_pool::{Gate, HoldGate, OpenGate};
 use sparsity::Rows;
@@ -74,11 +74,11 @@ fn quad(corners: [u32; 4]) -> QuadSpec {
     }
 }
 
-fn forest<R: Abort + AllocGlobal>(
+fn coarse<R: Abort + AllocGlobal>(
     rt: &R,
     points: &[Point],
     quads: &[QuadSpec],
-) -> Result<Forest, Fail> {
+) -> Result<QuadMesh, Fail> {
     let points = points.to_vec(rt.alloc())?;
     let quads = quads.to_vec(rt.alloc())?;
     assert!(rt; are_within_reach(&points));
@@ -87,8 +87,7 @@ fn forest<R: Abort + AllocGlobal>(
     let mesh = QuadMesh::new(rt.alloc(), points, quads, Vec::new(rt.alloc()))
         .ok()
         .ok_or("a mesh")?;
-    let forest = Forest::of(rt.alloc(), mesh).ok().ok_or("a forest")?;
-    Ok(forest)
+    Ok(mesh)
 }
 
 fn are_within_reach(points: &[Point]) -> bool
@@ -117,22 +116,80 @@ fn free<R: Abort + AllocGlobal>(rt: &R, dofs: &Dofs) -> Result<Closed, Fail>
     }
 }
 
+/// The set-up of cells alone.
+fn built<R: Abort + Threads + Sync + AllocGlobal>(
+    rt: &R,
+    forest: Forest,
+    dofs: Dofs,
+    closed: Closed,
+    problem: Problem,
+) -> Result<Setup, Fail>
+    requires numbered { IsNumberingOf forest dofs }
+    requires lines { length closed ≡ dofs.size }
+{
+    match Setup::build(rt, rt.alloc(), forest, dofs, closed, problem, CELLS_ONLY) {
+        Ok(setup) => Ok(setup),
+        Err(_) => Err("a set-up")?,
+    }
+}
+
+fn numbered<R: Abort + AllocGlobal>(rt: &R, forest: &Forest) -> Result<Dofs, Fail>
+    ensures { IfOk result (IsNumberingOf forest.now) }
+{
+    match Dofs::number(rt.alloc(), forest) {
+        Ok(dofs) => Ok(dofs),
+        Err(_) => Err("dofs")?,
+    }
+}
+
+fn no_problem<R: Abort + AllocGlobal>(rt: &R) -> Result<Problem, Fail> {
+    let problem = read_problem(rt.alloc(), b"").ok().ok_or("a problem")?;
+    Ok(problem)
+}
+
+fn with_dofs<R: Abort + Threads + Sync + AllocGlobal>(
+    rt: &R,
+    forest: Forest,
+    dofs: Dofs,
+    problem: Problem,
+) -> Result<Setup, Fail>
+    requires { IsNumberingOf forest dofs }
+{
+    match free(rt, &dofs) {
+        Ok(closed) => built(rt, forest, dofs, closed, problem),
+        Err(fail) => Err(fail),
+    }
+}
+
+fn with_problem<R: Abort + Threads + Sync + AllocGlobal>(
+    rt: &R,
+    forest: Forest,
+    problem: Problem,
+) -> Result<Setup, Fail> {
+    match numbered(rt, &forest) {
+        Ok(dofs) => with_dofs(rt, forest, dofs, problem),
+        Err(fail) => Err(fail),
+    }
+}
+
+fn on_forest<R: Abort + Threads + Sync + AllocGlobal>(
+    rt: &R,
+    forest: Forest,
+) -> Result<Setup, Fail> {
+    match no_problem(rt) {
+        Ok(problem) => with_problem(rt, forest, problem),
+        Err(fail) => Err(fail),
+    }
+}
+
 fn set_up<R: Abort + Threads + Sync + AllocGlobal>(
     rt: &R,
     points: &[Point],
     quads: &[QuadSpec],
 ) -> Result<Setup, Fail> {
-    let forest = forest(rt, points, quads)?;
-    let dofs = match Dofs::number(rt.alloc(), &forest) {
-        Ok(dofs) => dofs,
-        Err(_) => return Err("dofs")?,
-    };
-    let closed = free(rt, &dofs)?;
-    let problem = read_problem(rt.alloc(), b"").ok().ok_or("a problem")?;
-    match Setup::build(rt, rt.alloc(), forest, dofs, closed, problem, CELLS_ONLY) {
-        Ok(setup) => Ok(setup),
-        Err(_) => Err("a set-up")?,
-    }
+    let mesh = coarse(rt, points, quads)?;
+    let forest = Forest::of(rt.alloc(), mesh).ok().ok_or("a forest")?;
+    on_forest(rt, forest)
 }
 
 fn strip_of_two<R: Abort + Threads + Sync + AllocGlobal>(rt: &R) -> Result<Setup, Fail> {

@@ -1,4 +1,4 @@
-use Rattle.std.proofs.Common.{◌≡◌, ◌+◌, ◌-◌, ◌<◌, ◌≤◌, ℕ, List, ap, arith, length, sym, subst, None, slice_index}
+use Rattle.std.proofs.Common.{◌≡◌, ◌-◌, ◌<◌, ℕ, List, arith, length, sym, subst, slice_index}
 use Rattle.conflict_coloring.specs.Coloring.{color_count}
 use Rattle.sparsity.specs.declared.rows.Row.{Row}
 use Rattle.serial_sum.specs.Marks.{IsRound}
