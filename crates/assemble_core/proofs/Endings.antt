@@ -142,10 +142,13 @@ pub written_leaves : (takes : Mode → Bool) (words : List (List ℕ)) (choice :
     OnOk result (AllCallsWell (record { store = store_middle; out = out }) calls_now) →
     IfErr result (StopsAmong targets (record { holds = holds_middle; taken = taken }) now (record { store = store_middle; out = out }) calls_now) →
     Leaves takes words (record { holds = holds; taken = taken }) (record { store = store; out = out }) now calls_now result
-written_leaves takes words choice holds holds_middle taken store store_middle out now calls_now targets (Ok unit) asked defines same reads all well stop =
-    (targets, goes choice asked defines, all ∙ ap (λ world. after_targets world targets) (same_world holds holds_middle taken same),
-     calls_go_on (record { store = store; out = out }) (record { store = store_middle; out = out }) calls_now (read_calls store store_middle out reads) well)
+written_leaves takes words choice holds holds_middle taken store store_middle out now calls_now targets (Ok unit) asked defines same reads all well stop = (
+  targets,
+  goes choice asked defines,
+  all ∙ ap (λ world. after_targets world targets) (same_world holds holds_middle taken same),
+  calls_go_on (record { store = store; out = out }) (record { store = store_middle; out = out }) calls_now (read_calls store store_middle out reads) well,
+)
 written_leaves takes words choice holds holds_middle taken store store_middle out now calls_now targets (Err e) asked defines same reads all well stop =
     writing_leaves takes words (record { holds = holds; taken = taken }) now (record { store = store; out = out }) calls_now targets e (goes choice asked defines)
     (among_later targets (record { holds = holds; taken = taken }) (record { holds = holds_middle; taken = taken }) now (record { store = store; out = out }) (record { store = store_middle; out = out }) calls_now e
-     (same_world holds holds_middle taken same) (read_calls store store_middle out reads) stop)
+    (same_world holds holds_middle taken same) (read_calls store store_middle out reads) stop)

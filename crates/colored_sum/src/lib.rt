@@ -6,8 +6,6 @@
 mod colored;
 mod crew;
 mod row_job;
-#[cfg(test)]
-mod tests;
 
 pub use colored::assemble_colored;
 pub use row_job::MatrixRowJob;

@@ -6,4 +6,3 @@ mod write;
 
 pub use target::Target;
 pub use write::write_targets;
-

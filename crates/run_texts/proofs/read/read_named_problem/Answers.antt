@@ -28,13 +28,13 @@ pub returns-clause-ok : goal.returns-clause-ok
 returns-clause-ok g c =
     subst (λ name. IfOk c.problem_in-2.result (λ p. ProblemUnder (g.S.Store.holds c.args.store.now) (option_copied name) (Ok p))) (sym c.in-Some.is)
     (under_ok roles.Problem ProblemIn (g.S.Store.holds c.args.store.now) c.in-Some.name.now c.in-Ok.text.items c.problem_in-2.result c.in-Ok.ensures.ok
-     (subst (λ text. IfOk c.problem_in-2.result (λ p. ProblemIn text (Ok p))) c.as_slice.ensures.value c.problem_in-2.ensures.ok))
+    (subst (λ text. IfOk c.problem_in-2.result (λ p. ProblemIn text (Ok p))) c.as_slice.ensures.value c.problem_in-2.ensures.ok))
 
 pub returns-clause-ends : goal.returns-clause-ends
 returns-clause-ends g c =
     subst (λ name. IfErr c.problem_in-2.result (EndsProblem (g.S.Store.holds c.args.store.now) (option_copied name))) (sym c.in-Some.is)
     (problem_under_ends (g.S.Store.holds c.args.store.now) c.in-Some.name.now c.in-Ok.text.items c.problem_in-2.result c.in-Ok.ensures.ok
-     (subst (λ text. IfErr c.problem_in-2.result (stages.EndsIn (ProblemIn text))) c.as_slice.ensures.value c.problem_in-2.ensures.refused))
+    (subst (λ text. IfErr c.problem_in-2.result (stages.EndsIn (ProblemIn text))) c.as_slice.ensures.value c.problem_in-2.ensures.refused))
 
 pub returns-clause-calls : goal.returns-clause-calls
 returns-clause-calls g c = one_read (ProblemIn c.as_slice.result.now) c.problem_in-2.result (g.S.Store.counts c.args.store.now) (g.S.Store.counts c.read_text.new.store) c.problem_in-2.ensures.refused c.in-Ok.ensures.calls
