@@ -1,3 +1,4 @@
 pub mod Asking
 pub mod Setups
 pub mod Endings
+pub mod Statuses

@@ -5,6 +5,7 @@ use crate::{run, run_plain};
 use fem_text::{DiskStore, StdSink, Streams};
 use run_words::wants_wait;
 use scratch_pool::OpenGate;
+use std::alloc::Global;
 use std::env;
 use std::io::ErrorKind;
 use std::rt::Runtime;
@@ -25,13 +26,22 @@ pub fn run_program<R: Runtime + AllocGlobal + Threads + Wait + Sync + Streams>(r
     let Ok(words) = args.skip(1).collect::<Vec<String>>(alloc) else {
         return 12;
     };
+    run_on_disk(rt, alloc, words.as_slice())
+}
+
+// Runs the words over files and the standard streams.
+fn run_on_disk<R: Runtime + Threads + Wait + Sync + Streams>(
+    rt: &R,
+    alloc: Global,
+    words: &[String],
+) -> u8
+    ensures { is_status result ≡ true }
+{
     let mut store = DiskStore::new(rt);
     let mut out = StdSink::new(rt, false);
     let mut err = StdSink::new(rt, true);
-    let words = words.as_slice();
     if wants_wait(words) {
-        run(rt, alloc, words, &mut store, &mut out, &mut err, &OpenGate)
-    } else {
-        run_plain(rt, alloc, words, &mut store, &mut out, &mut err, &OpenGate)
+        return run(rt, alloc, words, &mut store, &mut out, &mut err, &OpenGate);
     }
+    run_plain(rt, alloc, words, &mut store, &mut out, &mut err, &OpenGate)
 }
