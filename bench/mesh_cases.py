@@ -18,7 +18,7 @@ class Mesh:
 
 def grid(rng):
     """A grid of a few cells, some left out, with inner nodes moved."""
-    columns, rows = rng.randint(1, 4), rng.randint(1, 3)
+    columns, rows = rng.choice([(1, 1), (2, 1), (2, 2), (3, 2), (1, 3), (4, 3), (5, 4)])
     step = Decimal(rng.choice(["1", "2", "0.5", "0.25", "17", "200", "0.001"]))
     moved = rng.random() < 0.5
     places = []
@@ -49,12 +49,13 @@ def fan(rng):
 
 
 def apart(rng):
-    """Cells that share no node, some of them of a tick, which the local form of a cell refuses."""
+    """Cells that share no node, some of them triangles of a few ticks, which the local form of a cell may refuse."""
     places, corners = [], []
     for c in range(rng.randint(1, 6)):
-        side = TICK * rng.choice([1, 2, 3]) if rng.random() < 0.4 else Decimal(1)
+        tiny = rng.random() < 0.3
+        side = TICK * rng.choice([1, 1, 2, 3]) if tiny else Decimal(1)
         left = Decimal(10 * c)
-        places += [(left, Decimal(0)), (left + side, Decimal(0)), (left + side, side), (left, side)]
+        places += [(left, Decimal(0)), (left + side, Decimal(0)), (left if tiny else left + side, side), (left, side)]
         corners.append((4 * c, 4 * c + 1, 4 * c + 2, 4 * c + 3))
     return places, corners
 

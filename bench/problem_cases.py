@@ -64,12 +64,14 @@ def constraint_lines(rng, ids):
 
 def extreme_lines(rng, mesh):
     """Large coefficients and weights, whose local entries and sums pass the limits on long flat cells."""
-    lines = [f"diffusion {material} {rng.choice(['32768', '16384', '1'])}"
+    lines = [f"diffusion {material} {rng.choice(['32768', '32768', '16384'])}"
              for material in sorted({material for _, material in mesh.cells})]
+    to = mesh.cells[0][0][0]
     for four, _ in mesh.cells:
-        a, b = (mesh.ids[k] for k in rng.sample(four, 2))
-        lines.append(f"constraint {a} = {rng.choice(['16', '-16', '1'])}*{b}")
-    return lines[:rng.randint(1, len(lines))]
+        here = rng.choice([k for k in four if k != to])
+        if rng.random() < 0.8:
+            lines.append(f"constraint {mesh.ids[here]} = {rng.choice(['16', '16', '-16', '1'])}*{mesh.ids[to]}")
+    return lines
 
 
 def long_lines(rng, ids):

@@ -27,11 +27,12 @@ class Cost:
 
 
 def add_program_options(parser, peer):
-    """The options that say which programs run."""
+    """The options that say which programs run; a peer is `required`, `optional` or `none`."""
     parser.add_argument("--program", default=str(BUILT), metavar="PROGRAM",
                         help="the program (default: the one that ./assemble builds)")
-    parser.add_argument("--peer", required=peer == "required", metavar="PROGRAM",
-                        help="another program with the same words")
+    if peer != "none":
+        parser.add_argument("--peer", required=peer == "required", metavar="PROGRAM",
+                            help="another program with the same words")
 
 
 def run_in(folder, program, words, given=b"", limit=60.0):
