@@ -5,7 +5,7 @@
 
 Compared are the bytes of standard output, the diagnostic, the files written, and the status. Each difference is printed
 with the words that repeat it; `--only K --keep FOLDER` writes the texts of case K of the seed to a folder and prints its
-words. At the end stands how often each status and each kind of refusal came, so that it is seen what was reached.
+words. At the end stands how often each status and each kind of refusal came: so it is seen what was reached.
 """
 import argparse
 import random
@@ -21,6 +21,11 @@ from mesh_cases import random_mesh, random_mesh_text
 from problem_cases import random_problem_text
 from programs import add_program_options, run_in
 from word_cases import random_words
+
+
+# Mesh texts of one line at most: empty ones, one without nodes, and counts at their limits and beyond.
+BARE = [b"", b"\n\n", b"0 0 0 0 0\n", b"0 0 0 0 0", b"# only\n", b"\xff\x00\n", b"1048577 0 0 0 0\n",
+        b"0 2097153 0 0 0", b"1048576 2097152 0 0 0\n"]
 
 
 @dataclass(frozen=True)
@@ -43,8 +48,7 @@ def case_of(seed, number):
     texts = {"mesh.inp": random_mesh_text(rng, mesh, faults["mesh"]),
              "problem.txt": random_problem_text(rng, mesh, faults["problem"])}
     if rng.random() < 0.01:
-        texts["mesh.inp"] = rng.choice([b"", b"\n\n", b"0 0 0 0 0\n", b"0 0 0 0 0", b"# only\n", b"\xff\x00\n", b"1048577 0 0 0 0\n",
-                                       b"0 2097153 0 0 0", b"1048576 2097152 0 0 0\n"])
+        texts["mesh.inp"] = rng.choice(BARE)
     words, given = random_words(rng, faults["words"])
     return Case(words, texts, given)
 
@@ -93,8 +97,8 @@ def report(number, case, ours, peers, chosen):
         if a != b:
             print(f"  output line {k}: {a[:80]!r} and {b[:80]!r}")
             break
-    print(f"  repeat: bench/compare.py --peer {chosen.peer} --seed {chosen.seed} --only {number} --keep FOLDER",
-          flush=True)
+    print(f"  repeat: bench/compare.py --program {chosen.program} --peer {chosen.peer} --seed {chosen.seed} "
+          f"--only {number} --keep FOLDER", flush=True)
 
 
 def keep(case, folder):

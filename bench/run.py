@@ -6,7 +6,7 @@
 
 Medians and least values of several rounds stand side by side, since other work on a machine only adds time. A ratio is
 the median over the rounds of ours by the peer's, of the processor time in the first part and of the wall time in the
-second; so above 1 the peer is faster.
+second; so above 1 the peer is faster. A peak that isn't above the least one that the system counts is printed as below it.
 """
 import argparse
 import tempfile
@@ -44,7 +44,8 @@ def ratio(ours, peers, part):
 
 
 def row(cells):
-    print("  ".join(f"{text:>{width}}" for text, width in cells))
+    """Prints the texts of a row, each to the right of its width."""
+    print("  ".join(f"{text:>{width}}" for text, width in cells), flush=True)
 
 
 def time_sizes(programs, sizes, rounds, target):
@@ -60,6 +61,14 @@ def time_sizes(programs, sizes, rounds, target):
                 before[place] = size_row(size, place, mine, costs, before.get(place))
 
 
+def peak_cells(peak, cells):
+    """The peak and what it is for a cell, or only that it is below what is counted for nearly no memory."""
+    floor = least_peak()
+    if peak < 1.1 * floor:
+        return [(f"<{1.1 * floor / 1e6:.0f}", 8), ("", 10)]
+    return [(f"{peak / 1e6:.1f}", 8), (f"{peak / cells:.0f}", 10)]
+
+
 def size_row(size, place, mine, costs, before):
     """One row, and the time for a cell that the next size is compared with."""
     cells = active_cells(size)
@@ -71,16 +80,20 @@ def size_row(size, place, mine, costs, before):
     beside = f"{ratio(costs[0], costs[1], lambda cost: cost.processor):.2f}" if len(costs) > 1 and place == 0 else ""
     row([(size if place == 0 else "", 5), (cells if place == 0 else "", 8), (("ours", "peer")[place], 8),
          (f"{seconds:.3f}", 9), (f"{min(cost.seconds for cost in mine):.3f}", 8), (f"{processor:.3f}", 8),
-         (f"{cells / seconds:.0f}", 9), (f"{peak / 1e6:.1f}", 8), (f"{peak / cells:.0f}", 10), (growth, 7),
-         (beside, 6)])
+         (f"{cells / seconds:.0f}", 9), *peak_cells(peak, cells), (growth, 7), (beside, 6)])
     return for_a_cell
+
+
+def beyond(mine, base):
+    """The median over the rounds of the wall time beyond that of the mode pattern."""
+    return median(a.seconds - b.seconds for a, b in zip(mine, base))
 
 
 def time_modes(programs, size, workers, rounds, target):
     """The modes with several workers, and the whole run less the run that ends with the pattern."""
     print(f"\nModes at N = {size}; `less pattern` is the whole run less that of the mode pattern in the same round")
-    row([("mode", 8), ("workers", 7), ("program", 8), ("median s", 9), ("least s", 8), ("less pattern s", 14),
-         ("ratio", 6)])
+    row([("mode", 8), ("workers", 7), ("program", 8), ("median s", 9), ("least s", 8), ("ratio", 6),
+         ("less pattern s", 14), ("ratio", 6)])
     base = None
     for mode, counts in (("pattern", [1]), ("serial", [1]), ("colors", [1]), ("colored", workers),
                          ("ordered", workers)):
@@ -88,16 +101,19 @@ def time_modes(programs, size, workers, rounds, target):
             words = grid(size) + ["--mode", mode, "--workers", str(count), "--matrix", target]
             costs = rounds_of(programs, words, rounds)
             base = base or costs
-            for place, mine in enumerate(costs):
-                mode_row(mode, count, place, mine, base[place], costs)
+            mode_rows(mode, count, costs, [beyond(mine, other) for mine, other in zip(costs, base)])
 
 
-def mode_row(mode, count, place, mine, base, costs):
-    less = median(a.seconds - b.seconds for a, b in zip(mine, base))
-    beside = f"{ratio(costs[0], costs[1], lambda cost: cost.seconds):.2f}" if len(costs) > 1 and place == 0 else ""
-    row([(mode if place == 0 else "", 8), (count if place == 0 else "", 7), (("ours", "peer")[place], 8),
-         (f"{median(cost.seconds for cost in mine):.3f}", 9), (f"{min(cost.seconds for cost in mine):.3f}", 8),
-         (f"{less:.3f}" if mode != "pattern" else "", 14), (beside, 6)])
+def mode_rows(mode, count, costs, phases):
+    """The rows of a mode with a number of workers, one a program."""
+    for place, mine in enumerate(costs):
+        first = place == 0
+        compared = first and len(costs) > 1
+        whole = f"{ratio(costs[0], costs[1], lambda cost: cost.seconds):.2f}" if compared else ""
+        part = f"{phases[0] / phases[1]:.2f}" if compared and phases[1] > 0 else ""
+        row([(mode if first else "", 8), (count if first else "", 7), (("ours", "peer")[place], 8),
+             (f"{median(cost.seconds for cost in mine):.3f}", 9), (f"{min(cost.seconds for cost in mine):.3f}", 8),
+             (whole, 6), (f"{phases[place]:.3f}" if mode != "pattern" else "", 14), (part, 6)])
 
 
 def main():

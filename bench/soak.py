@@ -71,7 +71,7 @@ def soak_case(number, chosen):
             return run_in(folder, chosen.program, words + case.words + ["--rhs", "-"], limit=chosen.limit)
 
         serial, expected, faults = expected_of(run, case)
-        for turn in range(chosen.plans):
+        for _ in range(chosen.plans):
             mode = rng.choice(["ordered", "colored"])
             words = ["--mode", mode, *random_plan(rng)]
             came = run(words)
@@ -81,6 +81,7 @@ def soak_case(number, chosen):
 
 
 def keep(case, folder):
+    """Leaves the texts of a case in a folder and prints how to run it there."""
     Path(folder).mkdir(parents=True, exist_ok=True)
     placed(case, folder)
     print(f"cd {shlex.quote(str(folder))} && assemble {shlex.join(case.words)} --rhs - --mode ..")
@@ -111,7 +112,8 @@ def main():
             for words, expected, came in faults:
                 print(f"case {number}, {words}: status {came.status} in place of {expected.status}, "
                       f"differs in {', '.join(differences(expected, came)) or 'time'}")
-                print(f"  repeat: bench/soak.py --seed {chosen.seed} --only {number} --keep FOLDER", flush=True)
+                print(f"  repeat: bench/soak.py --program {chosen.program} --seed {chosen.seed} --only {number} "
+                      f"--keep FOLDER", flush=True)
     for kind, times in sorted(kinds.items()):
         print(f"{times:7}  {kind}")
     print(f"{chosen.count} meshes, {chosen.count * chosen.plans} runs with threads, {wrong} differ")
