@@ -1,0 +1,142 @@
+#!/usr/bin/env python3
+"""Runs the program and a peer on random meshes, problems and words, and compares all that they do.
+
+    bench/compare.py --peer PROGRAM --count 1000 --seed 1
+
+Compared are the bytes of standard output, the diagnostic, the files written, and the status. Each difference is printed
+with the words that repeat it; `--only K --keep FOLDER` writes the texts of case K of the seed to a folder and prints its
+words. At the end stands how often each status and each kind of refusal came: so it is seen what was reached.
+"""
+import argparse
+import random
+import re
+import shlex
+import tempfile
+from collections import Counter
+from concurrent.futures import ThreadPoolExecutor
+from dataclasses import dataclass
+from pathlib import Path
+
+from mesh_cases import random_mesh, random_mesh_text
+from problem_cases import random_problem_text
+from programs import add_program_options, run_in
+from word_cases import random_words
+
+
+# Mesh texts of one line at most: empty ones, one without nodes, and counts at their limits and beyond.
+BARE = [b"", b"\n\n", b"0 0 0 0 0\n", b"0 0 0 0 0", b"# only\n", b"\xff\x00\n", b"1048577 0 0 0 0\n",
+        b"0 2097153 0 0 0", b"1048576 2097152 0 0 0\n"]
+
+
+@dataclass(frozen=True)
+class Case:
+    """Words, the texts of the folder by name, and the name of the text that standard input gives or None."""
+    words: list
+    texts: dict
+    given: str | None
+
+    def input(self):
+        return self.texts[self.given] if self.given else b""
+
+
+def case_of(seed, number):
+    """Case `number` of a seed, which no other case has a part in."""
+    rng = random.Random(f"{seed}/{number}")
+    where = rng.choices(["none", "mesh", "problem", "words"], [10, 4, 4, 3])[0]
+    faults = {name: rng.choice([1, 1, 2]) if name == where else 0 for name in ("mesh", "problem", "words")}
+    mesh = random_mesh(rng)
+    texts = {"mesh.inp": random_mesh_text(rng, mesh, faults["mesh"]),
+             "problem.txt": random_problem_text(rng, mesh, faults["problem"])}
+    if rng.random() < 0.01:
+        texts["mesh.inp"] = rng.choice(BARE)
+    words, given = random_words(rng, faults["words"])
+    return Case(words, texts, given)
+
+
+def placed(case, folder):
+    """Writes the texts of a case to a folder."""
+    for name, text in case.texts.items():
+        Path(folder, name).write_bytes(text)
+
+
+def run_case(case, program, limit):
+    with tempfile.TemporaryDirectory() as folder:
+        placed(case, folder)
+        return run_in(folder, program, case.words, case.input(), limit)
+
+
+def differences(ours, peers):
+    """The names of the parts in which two runs differ."""
+    parts = [name for name in ("status", "out", "err") if getattr(ours, name) != getattr(peers, name)]
+    files = sorted(name for name in ours.files.keys() | peers.files.keys()
+                   if ours.files.get(name) != peers.files.get(name))
+    return parts + [f"file {name}" for name in files]
+
+
+def kind_of(run):
+    """A status with the words of its diagnostic, without its numbers."""
+    if run.status is None:
+        return "past the limit of time"
+    line = run.err.decode(errors="replace").removeprefix("assemble: ").strip()
+    return "0" if run.status == 0 else re.sub(r"\b(?<!^)\d+\b", "N", line) or str(run.status)
+
+
+def both(number, chosen):
+    """Runs both programs on one case."""
+    case = case_of(chosen.seed, number)
+    return number, case, [run_case(case, program, chosen.limit) for program in (chosen.program, chosen.peer)]
+
+
+def report(number, case, ours, peers, chosen):
+    """Prints a difference, and the words that repeat it."""
+    print(f"case {number} differs in {', '.join(differences(ours, peers))}")
+    print(f"  words: {shlex.join(case.words)}")
+    for name, run in (("ours", ours), ("peer", peers)):
+        print(f"  {name}: status {run.status}, {len(run.out)} bytes, {run.err.decode(errors='replace').strip()!r}")
+    for k, (a, b) in enumerate(zip(ours.out.split(b"\n"), peers.out.split(b"\n")), start=1):
+        if a != b:
+            print(f"  output line {k}: {a[:80]!r} and {b[:80]!r}")
+            break
+    print(f"  repeat: bench/compare.py --program {chosen.program} --peer {chosen.peer} --seed {chosen.seed} "
+          f"--only {number} --keep FOLDER", flush=True)
+
+
+def keep(case, folder):
+    """Leaves the texts of a case in a folder and prints how to run it there."""
+    Path(folder).mkdir(parents=True, exist_ok=True)
+    placed(case, folder)
+    given = f" < {case.given}" if case.given else ""
+    print(f"cd {shlex.quote(str(folder))} && assemble {shlex.join(case.words)}{given}")
+
+
+def main():
+    parser = argparse.ArgumentParser(description=__doc__, formatter_class=argparse.RawDescriptionHelpFormatter)
+    add_program_options(parser, "required")
+    parser.add_argument("--count", type=int, default=1000, help="cases (default 1000)")
+    parser.add_argument("--seed", type=int, default=1)
+    parser.add_argument("--first", type=int, default=0, help="the first case's number")
+    parser.add_argument("--only", type=int, metavar="K", help="case K alone")
+    parser.add_argument("--keep", metavar="FOLDER", help="leave the texts of case K there")
+    parser.add_argument("--limit", type=float, default=60.0, help="seconds for a run")
+    parser.add_argument("--jobs", type=int, default=1, help="cases at a time")
+    chosen = parser.parse_args()
+    if chosen.only is not None:
+        chosen.first, chosen.count = chosen.only, 1
+        if chosen.keep:
+            keep(case_of(chosen.seed, chosen.only), chosen.keep)
+    kinds, wrong = Counter(), 0
+    with ThreadPoolExecutor(chosen.jobs) as pool:
+        numbers = range(chosen.first, chosen.first + chosen.count)
+        for number, case, (ours, peers) in pool.map(lambda number: both(number, chosen), numbers):
+            kinds[kind_of(peers)] += 1
+            if differences(ours, peers) or ours.status is None:
+                wrong += 1
+                report(number, case, ours, peers, chosen)
+    for kind, times in sorted(kinds.items()):
+        print(f"{times:7}  {kind}")
+    print(f"{chosen.count} cases, {wrong} differ")
+    raise SystemExit(1 if wrong else 0)
+
+
+if __name__ == "__main__":
+    main()
