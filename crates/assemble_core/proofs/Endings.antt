@@ -5,16 +5,13 @@ use Rattle.std.specs.declared.option.Option.{Option}
 use Rattle.std.specs.declared.result.Result.{Result}
 use Rattle.fem_fixed.specs.Mesh.{Mesh}
 use Rattle.fem_text.specs.declared.counts.Counts.{Counts}
-use Rattle.fem_text.specs.Counts.{AllWell, EndsInFault}
 use Rattle.fem_text.specs.Outside.{Held}
-use Rattle.fem_text.proofs.Counted.{none_well, well_well}
 use Rattle.problem_read.specs.Entries.{ProblemParts}
 use Rattle.run_words.specs.declared.options.Mode.{Mode}
 use Rattle.run_words.specs.Choice.{Choice}
-use Rattle.run_texts.specs.Read.{SourceRead, EndsReading, GoesOnTo, CallsEnd, is_read_fault}
+use Rattle.run_texts.specs.Read.{SourceRead, EndsReading, GoesOnTo, CallsEnd, names_in, is_read_fault}
 use Rattle.run_outputs.specs.Targets.{Target, World, after_targets}
-use Rattle.run_outputs.specs.Stops.{Calls, AllCallsWell, StopsAt, StopsAmong}
-use Rattle.run_outputs.proofs.Written.{stops_later, calls_go_on}
+use Rattle.run_outputs.specs.Stops.{StopsAmong}
 use Rattle.diagnostics.specs.declared.refusal.Refusal.{Refusal}
 use Rattle.diagnostics.specs.declared.refusal.Refusal.TheVariants.{Words}
 use Rattle.diagnostics.specs.declared.ending.Ending.{Ending}
@@ -28,7 +25,7 @@ use Rattle.mesh_loop.specs.Setup.{MeshProblem, pattern_of}
 use Rattle.std.specs.List.{concat}
 use Rattle.assemble_core.proofs.Setups.{few_entries}
 use Rattle.assemble_core.specs.Answer.{interior_of, Asked, Assembled, Defines, Answers}
-use Rattle.assemble_core.specs.Run.{Prepared, EndsDefining, IsUntouched, IsReadFault, StopsWriting, Leaves}
+use Rattle.assemble_core.specs.Run.{Prepared, EndsDefining, ReadsWell, after_reads, IsUntouched, IsReadFault, IsWritten, StopsWriting, Leaves}
 
 -- the reading ends the making of the texts
 pub read_defining : (holds : Option Held) (choice : Choice) (e : Ending) → EndsReading holds choice.source e → EndsDefining holds choice e
@@ -80,75 +77,63 @@ want_defining holds choice (Ok x) h = tt
 want_defining holds choice (Err e) h = subst (EndsDefining holds choice) (sym h) tt
 
 -- a step without a read ends behind reads that went well
-pub calls_behind : (X : Type 0) {Y : Type 0} (step : Result Y Refusal → Type 0) (e : Ending) (before now : Counts) → EndsIn step e → AllWell before now → CallsEnd (is_read_fault {X = X} (Err e)) before now
-calls_behind X step (Refused refusal) before now h well = well
-calls_behind X step (ReadFault role) before now h well = absurd h
-calls_behind X step (WriteFault output) before now h well = well
-calls_behind X step NoMemory before now h well = well
+pub calls_behind : (X : Type 0) {Y : Type 0} (step : Result Y Refusal → Type 0) (most : ℕ) (e : Ending) (before now : Counts) → EndsIn step e → CallsEnd most false before now →
+    CallsEnd most (is_read_fault {X = X} (Err e)) before now
+calls_behind X step most (Refused refusal) before now h well = well
+calls_behind X step most (ReadFault role) before now h well = absurd h
+calls_behind X step most (WriteFault output) before now h well = well
+calls_behind X step most NoMemory before now h well = well
 
-pub result_calls : {X Y : Type 0} (step : Result Y Refusal → Type 0) (result : Result X Ending) (before now : Counts) → IfErr result (EndsIn step) → AllWell before now → CallsEnd (is_read_fault result) before now
-result_calls {X} step (Ok value) before now h well = well
-result_calls {X} step (Err e) before now h well = calls_behind X step e before now h well
+pub result_calls : {X Y : Type 0} (step : Result Y Refusal → Type 0) (most : ℕ) (result : Result X Ending) (before now : Counts) → IfErr result (EndsIn step) → CallsEnd most false before now →
+    CallsEnd most (is_read_fault result) before now
+result_calls {X} step most (Ok value) before now h well = well
+result_calls {X} step most (Err e) before now h well = calls_behind X step most e before now h well
 
-pub want_calls : {X : Type 0} (result : Result X Ending) (before now : Counts) → IfErr result (λ e. e ≡ NoMemory) → AllWell before now → CallsEnd (is_read_fault result) before now
-want_calls {X} (Ok value) before now h well = well
-want_calls {X} (Err e) before now h well = subst (λ e. CallsEnd (is_read_fault {X = X} (Err e)) before now) (sym h) well
+pub want_calls : {X : Type 0} (most : ℕ) (result : Result X Ending) (before now : Counts) → IfErr result (λ e. e ≡ NoMemory) → CallsEnd most false before now → CallsEnd most (is_read_fault result) before now
+want_calls {X} most (Ok value) before now h well = well
+want_calls {X} most (Err e) before now h well = subst (λ e. CallsEnd most (is_read_fault {X = X} (Err e)) before now) (sym h) well
 
 -- the words are refused
-pub words_leave : (takes : Mode → Bool) (words : List (List ℕ)) (before : World) (calls : Calls) → Asked takes words (Err Words) → Leaves takes words before calls before calls (Err (Refused Words))
-words_leave takes words before calls asked = (stops Words asked refl, record { same = refl; reads = none_well calls.store; no_put = refl })
+pub words_leave : (takes : Mode → Bool) (words : List (List ℕ)) (before : World) → Asked takes words (Err Words) → Leaves takes words before before (Err (Refused Words))
+words_leave takes words before asked = (stops Words asked refl, record { reads = inl refl; same = refl })
 
-abbrev same_world : (holds holds_now : Option Held) (taken : Option (List ℕ)) → holds_now ≡ holds → ◌≡◌ {A = World} (record { holds = holds_now; taken = taken }) (record { holds = holds; taken = taken })
-same_world holds holds_now taken same = ap (λ h. record { holds = h; taken = taken }) same
+abbrev world_of : Option Held → Option (List ℕ) → Counts → Counts → World
+world_of holds taken store out = record { holds = holds; taken = taken; store = store; out = out }
+
+same_world : (holds holds_now : Option Held) (taken : Option (List ℕ)) (store out : Counts) → holds_now ≡ holds → world_of holds_now taken store out ≡ world_of holds taken store out
+same_world holds holds_now taken store out same = ap (λ h. world_of h taken store out) same
 
 -- the making of the texts ends the run
 pub defining_leaves : (X : Type 0) (takes : Mode → Bool) (words : List (List ℕ)) (choice : Choice) (holds holds_now : Option Held) (taken : Option (List ℕ)) (store store_now out : Counts) (e : Ending) →
-    Asked takes words (Ok choice) → EndsDefining holds choice e → holds_now ≡ holds → CallsEnd (is_read_fault {X = X} (Err e)) store store_now →
-    Leaves takes words (record { holds = holds; taken = taken }) (record { store = store; out = out }) (record { holds = holds_now; taken = taken }) (record { store = store_now; out = out }) (Err e)
+    Asked takes words (Ok choice) → EndsDefining holds choice e → holds_now ≡ holds → CallsEnd (names_in choice.source) (is_read_fault {X = X} (Err e)) store store_now →
+    Leaves takes words (world_of holds taken store out) (world_of holds_now taken store_now out) (Err e)
 defining_leaves X takes words choice holds holds_now taken store store_now out (Refused refusal) asked h same calls =
-    (goes choice asked h, record { same = same_world holds holds_now taken same; reads = calls; no_put = refl })
+    (goes choice asked h, record { reads = inr (choice, asked, calls); same = same_world holds holds_now taken store_now out same })
 defining_leaves X takes words choice holds holds_now taken store store_now out (ReadFault role) asked h same calls =
-    (choice, asked, h, record { same = same_world holds holds_now taken same; reads = calls; no_put = refl })
+    record { choice = choice; asked = asked; goes_on = h; reads = calls; same = same_world holds holds_now taken store_now out same }
 defining_leaves X takes words choice holds holds_now taken store store_now out (WriteFault output) asked h same calls = absurd h
 defining_leaves X takes words choice holds holds_now taken store store_now out NoMemory asked h same calls =
-    inl (choice, asked, record { same = same_world holds holds_now taken same; reads = calls; no_put = refl })
+    inl (choice, asked, record { reads = inr (choice, asked, calls); same = same_world holds holds_now taken store_now out same })
 
--- the store was read, and its world is as before
-abbrev read_calls : (store store_now out : Counts) → AllWell store store_now → AllCallsWell (record { store = store; out = out }) (record { store = store_now; out = out })
-read_calls store store_now out reads = record { store = reads; out = none_well out }
-
-among_later : (targets : List Target) (before middle now : World) (calls calls_middle calls_now : Calls) (e : Ending) → middle ≡ before → AllCallsWell calls calls_middle →
-    StopsAmong targets middle now calls_middle calls_now e → StopsAmong targets before now calls calls_now e
-among_later targets before middle now calls calls_middle calls_now e same well stop = record {
-  whole = stop.whole;
-  target = stop.target;
-  left = stop.left;
-  targets_are = stop.targets_are;
-  stops = subst (λ world. StopsAt stop.target (after_targets world stop.whole) now calls calls_now e) same
-      (stops_later stop.target (after_targets middle stop.whole) now calls calls_middle calls_now e well stop.stops);
-}
-
-writing_leaves : (takes : Mode → Bool) (words : List (List ℕ)) (before now : World) (calls calls_now : Calls) (targets : List Target) (e : Ending) → Answers takes words before.holds (Ok targets) →
-    StopsAmong targets before now calls calls_now e → Leaves takes words before calls now calls_now (Err e)
-writing_leaves takes words before now calls calls_now targets (Refused refusal) answer stop = absurd stop.stops
-writing_leaves takes words before now calls calls_now targets (ReadFault role) answer stop = absurd stop.stops
-writing_leaves takes words before now calls calls_now targets (WriteFault output) answer stop = record { targets = targets; answer = answer; stops = stop }
-writing_leaves takes words before now calls calls_now targets NoMemory answer stop = inr (record { targets = targets; answer = answer; stops = stop })
+writing_leaves : (takes : Mode → Bool) (words : List (List ℕ)) (before now : World) (reads : Counts) (targets : List Target) (e : Ending) → Answers takes words before.holds (Ok targets) →
+    ReadsWell takes words before.store reads → StopsAmong targets (after_reads before reads) now e → Leaves takes words before now (Err e)
+writing_leaves takes words before now reads targets (Refused refusal) answer well stop = absurd stop.stops
+writing_leaves takes words before now reads targets (ReadFault role) answer well stop = absurd stop.stops
+writing_leaves takes words before now reads targets (WriteFault output) answer well stop = record { targets = targets; answer = answer; reads = reads; reads_well = well; stops = stop }
+writing_leaves takes words before now reads targets NoMemory answer well stop = inr (record { targets = targets; answer = answer; reads = reads; reads_well = well; stops = stop })
 
 -- the writing ends the run
-pub written_leaves : (takes : Mode → Bool) (words : List (List ℕ)) (choice : Choice) (holds holds_middle : Option Held) (taken : Option (List ℕ)) (store store_middle out : Counts) (now : World) (calls_now : Calls)
-    (targets : List Target) (result : Result Unit Ending) → Asked takes words (Ok choice) → Defines holds choice (Ok targets) → holds_middle ≡ holds → AllWell store store_middle →
-    OnOk result (now ≡ after_targets (record { holds = holds_middle; taken = taken }) targets) →
-    OnOk result (AllCallsWell (record { store = store_middle; out = out }) calls_now) →
-    IfErr result (StopsAmong targets (record { holds = holds_middle; taken = taken }) now (record { store = store_middle; out = out }) calls_now) →
-    Leaves takes words (record { holds = holds; taken = taken }) (record { store = store; out = out }) now calls_now result
-written_leaves takes words choice holds holds_middle taken store store_middle out now calls_now targets (Ok unit) asked defines same reads all well stop = (
-  targets,
-  goes choice asked defines,
-  all ∙ ap (λ world. after_targets world targets) (same_world holds holds_middle taken same),
-  calls_go_on (record { store = store; out = out }) (record { store = store_middle; out = out }) calls_now (read_calls store store_middle out reads) well,
-)
-written_leaves takes words choice holds holds_middle taken store store_middle out now calls_now targets (Err e) asked defines same reads all well stop =
-    writing_leaves takes words (record { holds = holds; taken = taken }) now (record { store = store; out = out }) calls_now targets e (goes choice asked defines)
-    (among_later targets (record { holds = holds; taken = taken }) (record { holds = holds_middle; taken = taken }) now (record { store = store; out = out }) (record { store = store_middle; out = out }) calls_now e
-    (same_world holds holds_middle taken same) (read_calls store store_middle out reads) stop)
+pub written_leaves : (takes : Mode → Bool) (words : List (List ℕ)) (choice : Choice) (holds holds_read : Option Held) (taken : Option (List ℕ)) (store reads out : Counts) (now : World) (targets : List Target)
+    (result : Result Unit Ending) → Asked takes words (Ok choice) → Defines holds choice (Ok targets) → holds_read ≡ holds → CallsEnd (names_in choice.source) false store reads →
+    OnOk result (now ≡ after_targets (world_of holds_read taken reads out) targets) → IfErr result (StopsAmong targets (world_of holds_read taken reads out) now) →
+    Leaves takes words (world_of holds taken store out) now result
+written_leaves takes words choice holds holds_read taken store reads out now targets (Ok unit) asked defines same calls all stop = record {
+  targets = targets;
+  answer = goes choice asked defines;
+  reads = reads;
+  reads_well = inr (choice, asked, calls);
+  written = all ∙ ap (λ world. after_targets world targets) (same_world holds holds_read taken reads out same);
+}
+written_leaves takes words choice holds holds_read taken store reads out now targets (Err e) asked defines same calls all stop =
+    writing_leaves takes words (world_of holds taken store out) now reads targets e (goes choice asked defines) (inr (choice, asked, calls))
+    (subst (λ world. StopsAmong targets world now e) (same_world holds holds_read taken reads out same) stop)

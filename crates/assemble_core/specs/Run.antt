@@ -1,5 +1,5 @@
 -- What a run leaves, and its status.
-use Rattle.std.specs.Prelude.{◌≡◌, ◌⊎◌, ℕ, List, [], ◌∷◌, Bool, ◌==◌, true, Some, None, Ok, Err}
+use Rattle.std.specs.Prelude.{◌≡◌, ◌⊎◌, ℕ, List, [], ◌∷◌, Bool, ◌==◌, true, false, Some, None, Ok, Err}
 use Rattle.std.specs.declared.option.Option.{Option}
 use Rattle.std.specs.declared.result.Result.{Result}
 use Rattle.std.specs.List.{list_any}
@@ -7,13 +7,12 @@ use Rattle.fem_fixed.specs.Mesh.{Mesh}
 use Rattle.mesh_loop.specs.Setup.{MeshProblem}
 use Rattle.problem_read.specs.Entries.{ProblemParts}
 use Rattle.fem_text.specs.declared.counts.Counts.{Counts}
-use Rattle.fem_text.specs.Counts.{AllWell, EndsInFault}
 use Rattle.fem_text.specs.Outside.{Held}
 use Rattle.run_words.specs.declared.options.Mode.{Mode}
 use Rattle.run_words.specs.Choice.{Choice}
-use Rattle.run_texts.specs.Read.{SourceRead, GoesOnTo}
+use Rattle.run_texts.specs.Read.{SourceRead, GoesOnTo, CallsEnd, names_in}
 use Rattle.run_outputs.specs.Targets.{Target, World, after_targets}
-use Rattle.run_outputs.specs.Stops.{Calls, AllCallsWell, StopsAmong}
+use Rattle.run_outputs.specs.Stops.{StopsAmong}
 use Rattle.diagnostics.specs.declared.ending.Role.{Role}
 use Rattle.diagnostics.specs.declared.ending.Output.{Output}
 use Rattle.diagnostics.specs.declared.ending.Ending.{Ending}
@@ -33,43 +32,56 @@ EndsDefining holds choice (ReadFault role) = GoesOnTo holds choice.source role
 EndsDefining holds choice (WriteFault output) = ⊥
 EndsDefining holds choice NoMemory = Unit {0}
 
+-- at most one read was made for each text that the words name, and none where they are refused, and all went well
+abbrev pub ReadsWell : (Mode → Bool) → List (List ℕ) → Counts → Counts → Type 0
+ReadsWell takes words before now = (now ≡ before) ⊎ ((choice : Choice) × Asked takes words (Ok choice) × CallsEnd (names_in choice.source) false before now)
+
+-- the same outside, with these counts of the store
+abbrev pub after_reads : World → Counts → World
+after_reads before reads = record { holds = before.holds; taken = before.taken; store = reads; out = before.out }
+
 -- nothing was written or put, and no call failed
-pub record IsUntouched (before : World) (calls : Calls) (now : World) (calls_now : Calls) : Type 0 where
-  pub same : now ≡ before
-  pub reads : AllWell calls.store calls_now.store
-  pub no_put : calls_now.out ≡ calls.out
+pub record IsUntouched (takes : Mode → Bool) (words : List (List ℕ)) (before now : World) : Type 0 where
+  pub reads : ReadsWell takes words before.store now.store
+  pub same : now ≡ after_reads before now.store
 
--- the last read failed, and nothing was written or put
-pub record IsReadFault (before : World) (calls : Calls) (now : World) (calls_now : Calls) : Type 0 where
-  pub same : now ≡ before
-  pub reads : EndsInFault calls.store calls_now.store
-  pub no_put : calls_now.out ≡ calls.out
+-- the last read failed, nothing is refused before it, and nothing was written or put
+pub record IsReadFault (takes : Mode → Bool) (words : List (List ℕ)) (before now : World) (role : Role) : Type 0 where
+  pub choice : Choice
+  pub asked : Asked takes words (Ok choice)
+  pub goes_on : GoesOnTo before.holds choice.source role
+  pub reads : CallsEnd (names_in choice.source) true before.store now.store
+  pub same : now ≡ after_reads before now.store
 
--- the writing of what the words define stopped so
-pub record StopsWriting (takes : Mode → Bool) (words : List (List ℕ)) (before : World) (calls : Calls) (now : World) (calls_now : Calls) (ending : Ending) : Type 0 where
+-- what the words define was written, and nothing else
+pub record IsWritten (takes : Mode → Bool) (words : List (List ℕ)) (before now : World) : Type 0 where
   pub targets : List Target
   pub answer : Answers takes words before.holds (Ok targets)
-  pub stops : StopsAmong targets before now calls calls_now ending
+  pub reads : Counts
+  pub reads_well : ReadsWell takes words before.store reads
+  pub written : now ≡ after_targets (after_reads before reads) targets
 
--- what a run of these words leaves by its end: all is written; the words define a refusal; a read failed, before which
--- nothing is refused; a write failed; or memory ran out, before anything was written or in a write
-abbrev pub Leaves : (Mode → Bool) → List (List ℕ) → World → Calls → World → Calls → Result Unit Ending → Type 0
-Leaves takes words before calls now calls_now (Ok unit) =
-    (targets : List Target) × Answers takes words before.holds (Ok targets) × (now ≡ after_targets before targets) × AllCallsWell calls calls_now
-Leaves takes words before calls now calls_now (Err (Refused refusal)) =
-    Answers takes words before.holds (Err refusal) × IsUntouched before calls now calls_now
-Leaves takes words before calls now calls_now (Err (ReadFault role)) =
-    (choice : Choice) × Asked takes words (Ok choice) × GoesOnTo before.holds choice.source role × IsReadFault before calls now calls_now
-Leaves takes words before calls now calls_now (Err (WriteFault output)) =
-    StopsWriting takes words before calls now calls_now (WriteFault output)
-Leaves takes words before calls now calls_now (Err NoMemory) =
-    ((choice : Choice) × Asked takes words (Ok choice) × IsUntouched before calls now calls_now)
-    ⊎ StopsWriting takes words before calls now calls_now NoMemory
+-- the writing of what the words define stopped so
+pub record StopsWriting (takes : Mode → Bool) (words : List (List ℕ)) (before now : World) (ending : Ending) : Type 0 where
+  pub targets : List Target
+  pub answer : Answers takes words before.holds (Ok targets)
+  pub reads : Counts
+  pub reads_well : ReadsWell takes words before.store reads
+  pub stops : StopsAmong targets (after_reads before reads) now ending
 
--- all that a run may change: the store and standard output, what they count, and what the diagnostics took and count
+-- what a run of these words leaves by its end: all is written; the words define a refusal; a read failed; a write
+-- failed; or memory ran out, before anything was written or in a write
+abbrev pub Leaves : (Mode → Bool) → List (List ℕ) → World → World → Result Unit Ending → Type 0
+Leaves takes words before now (Ok unit) = IsWritten takes words before now
+Leaves takes words before now (Err (Refused refusal)) = Answers takes words before.holds (Err refusal) × IsUntouched takes words before now
+Leaves takes words before now (Err (ReadFault role)) = IsReadFault takes words before now role
+Leaves takes words before now (Err (WriteFault output)) = StopsWriting takes words before now (WriteFault output)
+Leaves takes words before now (Err NoMemory) =
+    ((choice : Choice) × Asked takes words (Ok choice) × IsUntouched takes words before now) ⊎ StopsWriting takes words before now NoMemory
+
+-- all that a run may change: the store, standard output, and what the diagnostics took and count
 pub record Outside : Type 0 where
   pub world : World
-  pub calls : Calls
   pub told : Option (List ℕ)
   pub tells : Counts
 
@@ -87,7 +99,7 @@ status_of (Err ending) = ending_status ending
 pub record IsRun (takes : Mode → Bool) (words : List (List ℕ)) (before now : Outside) (status : ℕ) : Type 0 where
   pub end : Result Unit Ending
   pub status_is : status ≡ status_of end
-  pub leaves : Leaves takes words before.world before.calls now.world now.calls end
+  pub leaves : Leaves takes words before.world now.world end
   pub tells : Tells before now end
 
 -- the statuses of runs

@@ -45,8 +45,8 @@ pub fn run_plain<R: Runtime + Threads + Sync, S: Store, K: Sink, G: Gate + Sync>
     gate: &G,
 ) -> u8
     ensures { IsRun plain_modes (map string_bytes words.now)
-        (record { world = record { holds = S.holds store.old; taken = K.taken out.old }; calls = record { store = S.counts store.old; out = K.counts out.old }; told = K.taken err.old; tells = K.counts err.old })
-        (record { world = record { holds = S.holds store.new; taken = K.taken out.new }; calls = record { store = S.counts store.new; out = K.counts out.new }; told = K.taken err.new; tells = K.counts err.new })
+        (record { world = record { holds = S.holds store.old; taken = K.taken out.old; store = S.counts store.old; out = K.counts out.old }; told = K.taken err.old; tells = K.counts err.old })
+        (record { world = record { holds = S.holds store.new; taken = K.taken out.new; store = S.counts store.new; out = K.counts out.new }; told = K.taken err.new; tells = K.counts err.new })
         result }
 {
     match plain_work(rt, alloc, words, store, out, gate) {
@@ -70,8 +70,8 @@ pub fn run<R: Runtime + Threads + Wait + Sync, S: Store, K: Sink, G: Gate + Sync
     gate: &G,
 ) -> u8
     ensures { IsRun all_modes (map string_bytes words.now)
-        (record { world = record { holds = S.holds store.old; taken = K.taken out.old }; calls = record { store = S.counts store.old; out = K.counts out.old }; told = K.taken err.old; tells = K.counts err.old })
-        (record { world = record { holds = S.holds store.new; taken = K.taken out.new }; calls = record { store = S.counts store.new; out = K.counts out.new }; told = K.taken err.new; tells = K.counts err.new })
+        (record { world = record { holds = S.holds store.old; taken = K.taken out.old; store = S.counts store.old; out = K.counts out.old }; told = K.taken err.old; tells = K.counts err.old })
+        (record { world = record { holds = S.holds store.new; taken = K.taken out.new; store = S.counts store.new; out = K.counts out.new }; told = K.taken err.new; tells = K.counts err.new })
         result }
 {
     match work(rt, alloc, words, store, out, gate) {
@@ -93,8 +93,8 @@ fn plain_work<R: Runtime + Threads + Sync, S: Store, K: Sink, G: Gate + Sync>(
     gate: &G,
 ) -> Result<(), Ending>
     ensures { Leaves plain_modes (map string_bytes words.now)
-        (record { holds = S.holds store.old; taken = K.taken out.old }) (record { store = S.counts store.old; out = K.counts out.old })
-        (record { holds = S.holds store.new; taken = K.taken out.new }) (record { store = S.counts store.new; out = K.counts out.new })
+        (record { holds = S.holds store.old; taken = K.taken out.old; store = S.counts store.old; out = K.counts out.old })
+        (record { holds = S.holds store.new; taken = K.taken out.new; store = S.counts store.new; out = K.counts out.new })
         result }
 {
     let Some(options) = plain_options(words) else {
@@ -117,8 +117,8 @@ fn work<R: Runtime + Threads + Wait + Sync, S: Store, K: Sink, G: Gate + Sync>(
     gate: &G,
 ) -> Result<(), Ending>
     ensures { Leaves all_modes (map string_bytes words.now)
-        (record { holds = S.holds store.old; taken = K.taken out.old }) (record { store = S.counts store.old; out = K.counts out.old })
-        (record { holds = S.holds store.new; taken = K.taken out.new }) (record { store = S.counts store.new; out = K.counts out.new })
+        (record { holds = S.holds store.old; taken = K.taken out.old; store = S.counts store.old; out = K.counts out.old })
+        (record { holds = S.holds store.new; taken = K.taken out.new; store = S.counts store.new; out = K.counts out.new })
         result }
 {
     let Some(options) = all_options(words) else {

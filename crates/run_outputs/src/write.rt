@@ -1,6 +1,6 @@
 ghost use Rattle.std.specs.Prelude.{◌≡◌, map, OnOk, IfErr};
-ghost use Rattle.run_outputs.specs.Targets.{seen_target, after_target, after_targets};
-ghost use Rattle.run_outputs.specs.Stops.{AllCallsWell, StopsAt, StopsAmong};
+ghost use Rattle.run_outputs.specs.Targets.{World, seen_target, after_target, after_targets};
+ghost use Rattle.run_outputs.specs.Stops.{StopsAt, StopsAmong};
 
 use crate::Target;
 use diagnostics::Ending;
@@ -20,9 +20,8 @@ pub fn write_targets<S: Store, K: Sink>(
     store: &mut S,
     out: &mut K,
 ) -> Result<(), Ending>
-    ensures all { OnOk result (record { holds = S.holds store.new; taken = K.taken out.new } ≡ after_targets (record { holds = S.holds store.old; taken = K.taken out.old }) (map seen_target targets.now)) }
-    ensures well { OnOk result (AllCallsWell (record { store = S.counts store.old; out = K.counts out.old }) (record { store = S.counts store.new; out = K.counts out.new })) }
-    ensures stops { IfErr result (StopsAmong (map seen_target targets.now) (record { holds = S.holds store.old; taken = K.taken out.old }) (record { holds = S.holds store.new; taken = K.taken out.new }) (record { store = S.counts store.old; out = K.counts out.old }) (record { store = S.counts store.new; out = K.counts out.new })) }
+    ensures all { OnOk result (◌≡◌ {A = World} (record { holds = S.holds store.new; taken = K.taken out.new; store = S.counts store.new; out = K.counts out.new }) (after_targets (record { holds = S.holds store.old; taken = K.taken out.old; store = S.counts store.old; out = K.counts out.old }) (map seen_target targets.now))) }
+    ensures stops { IfErr result (StopsAmong (map seen_target targets.now) (record { holds = S.holds store.old; taken = K.taken out.old; store = S.counts store.old; out = K.counts out.old }) (record { holds = S.holds store.new; taken = K.taken out.new; store = S.counts store.new; out = K.counts out.new })) }
 {
     for target in targets {
         match write_target(alloc, target, store, out) {
@@ -40,9 +39,8 @@ fn write_target<S: Store, K: Sink>(
     store: &mut S,
     out: &mut K,
 ) -> Result<(), Ending>
-    ensures all { OnOk result (record { holds = S.holds store.new; taken = K.taken out.new } ≡ after_target (record { holds = S.holds store.old; taken = K.taken out.old }) (seen_target target.now)) }
-    ensures well { OnOk result (AllCallsWell (record { store = S.counts store.old; out = K.counts out.old }) (record { store = S.counts store.new; out = K.counts out.new })) }
-    ensures stops { IfErr result (StopsAt (seen_target target.now) (record { holds = S.holds store.old; taken = K.taken out.old }) (record { holds = S.holds store.new; taken = K.taken out.new }) (record { store = S.counts store.old; out = K.counts out.old }) (record { store = S.counts store.new; out = K.counts out.new })) }
+    ensures all { OnOk result (◌≡◌ {A = World} (record { holds = S.holds store.new; taken = K.taken out.new; store = S.counts store.new; out = K.counts out.new }) (after_target (record { holds = S.holds store.old; taken = K.taken out.old; store = S.counts store.old; out = K.counts out.old }) (seen_target target.now))) }
+    ensures stops { IfErr result (StopsAt (seen_target target.now) (record { holds = S.holds store.old; taken = K.taken out.old; store = S.counts store.old; out = K.counts out.old }) (record { holds = S.holds store.new; taken = K.taken out.new; store = S.counts store.new; out = K.counts out.new })) }
 {
     match target.destination {
         Destination::Standard => match put_text(out, target.text.as_slice()) {

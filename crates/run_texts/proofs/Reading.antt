@@ -11,7 +11,6 @@ use Rattle.fem_text.specs.declared.counts.Counts.{Counts}
 use Rattle.fem_text.specs.Counts.{after_call}
 use Rattle.fem_text.specs.Outside.{Held, Reads, IsAbsent}
 use Rattle.fem_text.specs.declared.fault.TextFault.{TextFault}
-use Rattle.fem_text.proofs.Counted.{one_well}
 use Rattle.ucd_read.specs.declared.fault.UcdKind.{UcdKind}
 use Rattle.ucd_read.specs.declared.fault.UcdKind.TheVariants as ucd
 use Rattle.ucd_read.specs.Faults as ucd_faults
@@ -169,8 +168,12 @@ module _ {X : Type 0} where
 
   -- one read went well
   pub one_read : (step : Result X Refusal → Type 0) (result : Result X Ending) (before now : Counts) → IfErr result (stages.EndsIn step) → now ≡ after_call false before →
-      CallsEnd (is_read_fault result) before now
-  one_read step result before now h e = subst (λ b. CallsEnd b before now) (sym (no_read_fault step result h)) (one_well before now e)
+      CallsEnd 1 (is_read_fault result) before now
+  one_read step result before now h e = subst (λ b. CallsEnd 1 b before now) (sym (no_read_fault step result h)) (1, lit≤ tt, e)
+
+  -- no read was made
+  pub no_read : (step : Result X Refusal → Type 0) (result : Result X Ending) (before : Counts) → IfErr result (stages.EndsIn step) → CallsEnd 0 (is_read_fault result) before before
+  no_read step result before h = subst (λ b. CallsEnd 0 b before before) (sym (no_read_fault step result h)) (0, lit≤ tt, refl)
 
 -- the problem of the text under a name
 abbrev NamedProblem : Option Held → List ℕ → Result ProblemParts Refusal → Type 0

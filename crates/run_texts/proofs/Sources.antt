@@ -1,13 +1,12 @@
 -- The two texts of a source.
-use Rattle.std.proofs.Common.{◌≡◌, ◌∙◌, sym, ap, refl, subst, ℕ, List, [], Bool, true, false}
+use Rattle.std.proofs.Common.{◌≡◌, ◌∙◌, sym, ap, refl, subst, ℕ, zero, suc, ◌<◌, ◌≤◌, arith, List, [], Bool, true, false}
 use Rattle.std.specs.Prelude.{Some, None, is_some, Ok, Err, IfOk, IfErr}
 use Rattle.std.specs.declared.option.Option.{Option}
 use Rattle.std.specs.declared.result.Result.{Result}
 use Rattle.fem_fixed.specs.Mesh.{Mesh}
 use Rattle.fem_text.specs.declared.counts.Counts.{Counts}
-use Rattle.fem_text.specs.Counts.{AllWell, EndsInFault, after_call}
+use Rattle.fem_text.specs.Counts.{after_call, after_good}
 use Rattle.fem_text.specs.Outside.{Held}
-use Rattle.fem_text.proofs.Counted.{one_well, one_fault, well_well, well_fault}
 use Rattle.problem_read.specs.Entries.{ProblemParts}
 use Rattle.run_words.specs.Choice.{Source, texts, generated}
 use Rattle.diagnostics.specs.declared.refusal.Refusal.{Refusal}
@@ -19,7 +18,7 @@ use Rattle.diagnostics.specs.Stages.{Then, stops, goes}
 use Rattle.diagnostics.specs.Stages as stages
 use Rattle.grid_texts.specs.Grid as grid
 use Rattle.run_texts.specs.Texts.{Texts, StandsUnder, ProblemStands, MeshOf, ProblemOf, AreTextsOf, ReadTexts}
-use Rattle.run_texts.specs.Read.{MeshUnder, ProblemUnder, EndsIn, EndsProblem, SourceRead, GoesOnTo, EndsReading, CallsEnd, is_read_fault}
+use Rattle.run_texts.specs.Read.{MeshUnder, ProblemUnder, EndsIn, EndsProblem, SourceRead, GoesOnTo, EndsReading, CallsEnd, name_count, is_read_fault}
 
 -- what a text that isn't read may be
 some_text : (holds : Option Held) (name : List ℕ) → (known : Option (List ℕ)) × StandsUnder holds name known
@@ -62,14 +61,23 @@ problem_ends_both holds mesh name parts (WriteFault output) m h = h
 problem_ends_both holds mesh name parts NoMemory m h = h
 
 -- the calls of one read
-pub one_call : (failed : Bool) (before now : Counts) → now ≡ after_call failed before → CallsEnd failed before now
-one_call true before now e = one_fault before now e
-one_call false before now e = one_well before now e
+pub one_call : (most : ℕ) (failed : Bool) (before now : Counts) → 0 < most → now ≡ after_call failed before → CallsEnd most failed before now
+one_call most true before now some e = (0, some, e)
+one_call most false before now some e = (1, (let one : 1 ≤ most = (let h = some in omega arith) in one), e)
 
--- and of the next behind one that went well
-pub next_calls : (failed : Bool) (before middle now : Counts) → middle ≡ after_call false before → CallsEnd failed middle now → CallsEnd failed before now
-next_calls true before middle now e h = well_fault before middle now (one_well before middle e) h
-next_calls false before middle now e h = well_well before middle now (one_well before middle e) h
+good_more : (k : ℕ) (before : Counts) → after_good k (after_call false before) ≡ after_good (suc k) before
+good_more zero before = refl
+good_more (suc k) before = ap (after_call false) (good_more k before)
+
+-- and of the next ones behind one that went well
+pub next_calls : (most : ℕ) (failed : Bool) (before middle now : Counts) → middle ≡ after_call false before → CallsEnd most failed middle now → CallsEnd (suc most) failed before now
+next_calls most true before middle now e (k, few, is) =
+    (suc k, (let more : suc k < suc most = (let h = few in omega arith) in more), is ∙ ap (λ c. after_call true (after_good k c)) e ∙ ap (after_call true) (good_more k before))
+next_calls most false before middle now e (k, few, is) =
+    (suc k, (let more : suc k ≤ suc most = (let h = few in omega arith) in more), is ∙ ap (after_good k) e ∙ good_more k before)
+
+pub some_names : (problem : Option (List ℕ)) → 0 < suc (name_count problem)
+some_names problem = omega arith
 
 abbrev drawn_texts : ℕ → ℕ → Texts
 drawn_texts n seed = record { mesh = Some (grid.mesh_text n seed); problem = Some (grid.problem_text n) }

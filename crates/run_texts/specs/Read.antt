@@ -1,10 +1,10 @@
 -- How the reading of the texts of a source goes.
-use Rattle.std.specs.Prelude.{◌≡◌, ℕ, List, Bool, true, false, Some, None, IsSome, Ok, Err}
+use Rattle.std.specs.Prelude.{◌≡◌, ℕ, suc, ◌<◌, ◌≤◌, List, Bool, true, false, Some, None, IsSome, Ok, Err}
 use Rattle.std.specs.declared.option.Option.{Option}
 use Rattle.std.specs.declared.result.Result.{Result}
 use Rattle.fem_fixed.specs.Mesh.{Mesh}
 use Rattle.fem_text.specs.declared.counts.Counts.{Counts}
-use Rattle.fem_text.specs.Counts.{AllWell, EndsInFault}
+use Rattle.fem_text.specs.Counts.{after_call, after_good}
 use Rattle.fem_text.specs.Outside.{Held}
 use Rattle.problem_read.specs.Entries.{ProblemParts}
 use Rattle.run_words.specs.Choice.{Source, texts, generated}
@@ -66,7 +66,16 @@ is_read_fault (Err (ReadFault role)) = true
 is_read_fault (Err (WriteFault output)) = false
 is_read_fault (Err NoMemory) = false
 
--- the last call failed, or none did
-abbrev pub CallsEnd : Bool → Counts → Counts → Type 0
-CallsEnd true before now = EndsInFault before now
-CallsEnd false before now = AllWell before now
+-- how many texts stand under names
+abbrev pub name_count : Option (List ℕ) → ℕ
+name_count None = 0
+name_count (Some name) = 1
+
+abbrev pub names_in : Source → ℕ
+names_in (texts mesh problem) = suc (name_count problem)
+names_in (generated n seed) = 0
+
+-- so many reads were made at most, each went well but for the last one where that failed
+abbrev pub CallsEnd : ℕ → Bool → Counts → Counts → Type 0
+CallsEnd most true before now = (k : ℕ) × (k < most) × (now ≡ after_call true (after_good k before))
+CallsEnd most false before now = (k : ℕ) × (k ≤ most) × (now ≡ after_good k before)

@@ -4,7 +4,7 @@ ghost use Rattle.fem_text.specs.Counts.{after_call};
 ghost use Rattle.ucd_read.specs.Bounds.{IsBounded};
 ghost use Rattle.diagnostics.specs.Stages as stages;
 ghost use Rattle.run_texts.specs.Texts.{text_limit, MeshIn, ProblemIn, MeshOf, ProblemOf};
-ghost use Rattle.run_texts.specs.Read.{TextUnder, MeshUnder, ProblemUnder, EndsIn, EndsProblem, CallsEnd, is_read_fault};
+ghost use Rattle.run_texts.specs.Read.{TextUnder, MeshUnder, ProblemUnder, EndsIn, EndsProblem, CallsEnd, name_count, is_read_fault};
 
 use diagnostics::{Ending, LimitKind, Refusal, Role};
 use fem_fixed::MeshParts;
@@ -137,7 +137,7 @@ pub(crate) fn read_named_problem<S: Store>(
     ensures ok { IfOk result (λ problem. ProblemUnder (S.holds store.old) (option_copied name.entry) (Ok problem)) }
     ensures ends { IfErr result (EndsProblem (S.holds store.old) (option_copied name.entry)) }
     ensures same { S.holds store.new ≡ S.holds store.old }
-    ensures calls { CallsEnd (is_read_fault result) (S.counts store.old) (S.counts store.new) }
+    ensures calls { CallsEnd (name_count (option_copied name.entry)) (is_read_fault result) (S.counts store.old) (S.counts store.new) }
 {
     let Some(name) = name else {
         return problem_in(alloc, b"");

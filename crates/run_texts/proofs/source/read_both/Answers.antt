@@ -1,4 +1,4 @@
-use Rattle.std.proofs.Common.{◌≡◌, ◌∙◌, sym, ap, refl, subst, ◌<◌, ◌≤◌, length, arith, true, false}
+use Rattle.std.proofs.Common.{◌≡◌, ◌∙◌, sym, ap, refl, subst, ◌<◌, ◌≤◌, length, arith, true, false, suc}
 use Rattle.std.specs.Prelude.{Some, None, Ok, Err, IfOk, IfErr}
 use Rattle.std.proofs.lemmas.Grind.{common_steps}
 use Rattle.diagnostics.specs.declared.ending.Role.TheVariants as roles
@@ -7,9 +7,9 @@ use Rattle.diagnostics.specs.declared.kinds.LimitKind.TheVariants.{MeshSize, Pro
 use Rattle.diagnostics.specs.Stages.{stops, goes}
 use Rattle.diagnostics.specs.Stages as stages
 use Rattle.run_texts.specs.Texts.{text_limit, MeshIn, ProblemIn, MeshOf, ProblemOf}
-use Rattle.run_texts.proofs.Sources.{both_ok, mesh_ends_both, problem_ends_both, one_call, next_calls}
+use Rattle.run_texts.proofs.Sources.{both_ok, mesh_ends_both, problem_ends_both, one_call, next_calls, some_names}
 use Rattle.std.specs.Option.{option_copied}
-use Rattle.run_texts.specs.Read.{ProblemUnder, EndsProblem, CallsEnd, is_read_fault}
+use Rattle.run_texts.specs.Read.{ProblemUnder, EndsProblem, CallsEnd, name_count, is_read_fault}
 use Rattle.problem_read.specs.Entries.{ProblemParts}
 use Rattle.run_texts.proofs.source.read_both.Goals as goal
 
@@ -23,7 +23,7 @@ returns-in-Ok-read_named_problem-clause-ok g c =
 
 pub returns-in-Ok-read_named_problem-clause-calls : goal.returns-in-Ok-read_named_problem-clause-calls
 returns-in-Ok-read_named_problem-clause-calls g c =
-    next_calls false (g.S.Store.counts c.args.store.now) (g.S.Store.counts c.read_mesh.new.store) (g.S.Store.counts c.read_named_problem.new.store) c.in-Ok.ensures.calls c.in-Ok-read_named_problem.ensures.calls
+    next_calls (name_count (option_copied c.args.problem)) false (g.S.Store.counts c.args.store.now) (g.S.Store.counts c.read_mesh.new.store) (g.S.Store.counts c.read_named_problem.new.store) c.in-Ok.ensures.calls c.in-Ok-read_named_problem.ensures.calls
 
 pub returns-in-Err-read_named_problem-clause-ends : goal.returns-in-Err-read_named_problem-clause-ends
 returns-in-Err-read_named_problem-clause-ends g c =
@@ -32,8 +32,8 @@ returns-in-Err-read_named_problem-clause-ends g c =
 
 pub returns-in-Err-read_named_problem-clause-calls : goal.returns-in-Err-read_named_problem-clause-calls
 returns-in-Err-read_named_problem-clause-calls g c =
-    next_calls (is_read_fault {X = ProblemParts} (Err c.in-Err-read_named_problem.ending)) (g.S.Store.counts c.args.store.now) (g.S.Store.counts c.read_mesh.new.store) (g.S.Store.counts c.read_named_problem.new.store)
+    next_calls (name_count (option_copied c.args.problem)) (is_read_fault {X = ProblemParts} (Err c.in-Err-read_named_problem.ending)) (g.S.Store.counts c.args.store.now) (g.S.Store.counts c.read_mesh.new.store) (g.S.Store.counts c.read_named_problem.new.store)
     c.in-Ok.ensures.calls c.in-Err-read_named_problem.ensures.calls
 
 pub returns-in-Err-clause-calls : goal.returns-in-Err-clause-calls
-returns-in-Err-clause-calls g c = one_call (is_read_fault {X = ProblemParts} (Err c.in-Err.ending)) (g.S.Store.counts c.args.store.now) (g.S.Store.counts c.read_mesh.new.store) c.in-Err.ensures.calls
+returns-in-Err-clause-calls g c = one_call (suc (name_count (option_copied c.args.problem))) (is_read_fault {X = ProblemParts} (Err c.in-Err.ending)) (g.S.Store.counts c.args.store.now) (g.S.Store.counts c.read_mesh.new.store) (some_names (option_copied c.args.problem)) c.in-Err.ensures.calls
