@@ -13,13 +13,11 @@ import re
 import shlex
 import tempfile
 from collections import Counter
-from concurrent.futures import ThreadPoolExecutor
 from dataclasses import dataclass
-from pathlib import Path
 
 from mesh_cases import random_mesh, random_mesh_text
 from problem_cases import random_problem_text
-from programs import add_program_options, run_in
+from programs import add_case_options, add_program_options, in_turn, kept, placed, run_in, told
 from word_cases import random_words
 
 
@@ -53,15 +51,9 @@ def case_of(seed, number):
     return Case(words, texts, given)
 
 
-def placed(case, folder):
-    """Writes the texts of a case to a folder."""
-    for name, text in case.texts.items():
-        Path(folder, name).write_bytes(text)
-
-
 def run_case(case, program, limit):
     with tempfile.TemporaryDirectory() as folder:
-        placed(case, folder)
+        placed(case.texts, folder)
         return run_in(folder, program, case.words, case.input(), limit)
 
 
@@ -101,40 +93,22 @@ def report(number, case, ours, peers, chosen):
           f"--only {number} --keep FOLDER", flush=True)
 
 
-def keep(case, folder):
-    """Leaves the texts of a case in a folder and prints how to run it there."""
-    Path(folder).mkdir(parents=True, exist_ok=True)
-    placed(case, folder)
-    given = f" < {case.given}" if case.given else ""
-    print(f"cd {shlex.quote(str(folder))} && assemble {shlex.join(case.words)}{given}")
-
-
 def main():
     parser = argparse.ArgumentParser(description=__doc__, formatter_class=argparse.RawDescriptionHelpFormatter)
     add_program_options(parser, "required")
-    parser.add_argument("--count", type=int, default=1000, help="cases (default 1000)")
-    parser.add_argument("--seed", type=int, default=1)
-    parser.add_argument("--first", type=int, default=0, help="the first case's number")
-    parser.add_argument("--only", type=int, metavar="K", help="case K alone")
-    parser.add_argument("--keep", metavar="FOLDER", help="leave the texts of case K there")
-    parser.add_argument("--limit", type=float, default=60.0, help="seconds for a run")
-    parser.add_argument("--jobs", type=int, default=1, help="cases at a time")
+    add_case_options(parser, count=1000, limit=60.0)
     chosen = parser.parse_args()
-    if chosen.only is not None:
-        chosen.first, chosen.count = chosen.only, 1
-        if chosen.keep:
-            keep(case_of(chosen.seed, chosen.only), chosen.keep)
+    if chosen.only is not None and chosen.keep:
+        case = case_of(chosen.seed, chosen.only)
+        kept(chosen.keep, case.texts, case.words, case.given)
     kinds, wrong = Counter(), 0
-    with ThreadPoolExecutor(chosen.jobs) as pool:
-        numbers = range(chosen.first, chosen.first + chosen.count)
-        for number, case, (ours, peers) in pool.map(lambda number: both(number, chosen), numbers):
-            kinds[kind_of(peers)] += 1
-            if differences(ours, peers) or ours.status is None:
-                wrong += 1
-                report(number, case, ours, peers, chosen)
-    for kind, times in sorted(kinds.items()):
-        print(f"{times:7}  {kind}")
-    print(f"{chosen.count} cases, {wrong} differ")
+    for number, case, (ours, peers) in in_turn(chosen, lambda number: both(number, chosen)):
+        kinds[kind_of(peers)] += 1
+        if differences(ours, peers) or ours.status is None:
+            wrong += 1
+            report(number, case, ours, peers, chosen)
+    told(kinds)
+    print(f"{kinds.total()} cases, {wrong} differ")
     raise SystemExit(1 if wrong else 0)
 
 

@@ -1,7 +1,9 @@
 """Runs of the program: what one run wrote, its status, its time and its memory."""
 import os
+import shlex
 import subprocess
 import time
+from concurrent.futures import ThreadPoolExecutor
 from dataclasses import dataclass, field
 from pathlib import Path
 
@@ -33,6 +35,44 @@ def add_program_options(parser, peer):
     if peer != "none":
         parser.add_argument("--peer", required=peer == "required", metavar="PROGRAM",
                             help="another program with the same words")
+
+
+def add_case_options(parser, count, limit):
+    """The options that say which random cases run, how many at a time, and how long one may take."""
+    parser.add_argument("--count", type=int, default=count, help=f"cases (default {count})")
+    parser.add_argument("--seed", type=int, default=1)
+    parser.add_argument("--first", type=int, default=0, help="the first case's number")
+    parser.add_argument("--only", type=int, metavar="K", help="case K alone")
+    parser.add_argument("--keep", metavar="FOLDER", help="leave the texts of case K there")
+    parser.add_argument("--limit", type=float, default=limit, help=f"seconds for a run (default {limit:g})")
+    parser.add_argument("--jobs", type=int, default=1, help="cases at a time")
+
+
+def in_turn(chosen, work):
+    """What `work` gives for the number of each chosen case, in their order."""
+    first, count = (chosen.first, chosen.count) if chosen.only is None else (chosen.only, 1)
+    with ThreadPoolExecutor(chosen.jobs) as pool:
+        yield from pool.map(work, range(first, first + count))
+
+
+def told(kinds):
+    """Prints how often each kind of end came."""
+    for kind, times in sorted(kinds.items()):
+        print(f"{times:7}  {kind}")
+
+
+def kept(folder, texts, words, given=None):
+    """Leaves texts by name in a folder, and prints how to run the words there."""
+    Path(folder).mkdir(parents=True, exist_ok=True)
+    placed(texts, folder)
+    tail = f" < {given}" if given else ""
+    print(f"cd {shlex.quote(str(folder))} && assemble {shlex.join(words)}{tail}")
+
+
+def placed(texts, folder):
+    """Writes texts by name to a folder."""
+    for name, text in texts.items():
+        Path(folder, name).write_bytes(text)
 
 
 def run_in(folder, program, words, given=b"", limit=60.0):

@@ -16,13 +16,11 @@ import random
 import shlex
 import tempfile
 from collections import Counter
-from concurrent.futures import ThreadPoolExecutor
-from pathlib import Path
 
-from compare import differences, kind_of, placed, Case
+from compare import differences, kind_of, Case
 from mesh_cases import random_mesh, random_mesh_text
 from problem_cases import random_problem_text
-from programs import add_program_options, run_in
+from programs import add_case_options, add_program_options, in_turn, kept, placed, run_in, told
 
 SMALL = [1, 1, 2, 3, 4, 8]
 
@@ -65,7 +63,7 @@ def soak_case(number, chosen):
     """Runs one case; the differences as words, the run that was expected and the one that came."""
     rng, case = case_of(chosen.seed, number)
     with tempfile.TemporaryDirectory() as folder:
-        placed(case, folder)
+        placed(case.texts, folder)
 
         def run(words):
             return run_in(folder, chosen.program, words + case.words + ["--rhs", "-"], limit=chosen.limit)
@@ -80,43 +78,26 @@ def soak_case(number, chosen):
     return number, case, serial, faults
 
 
-def keep(case, folder):
-    """Leaves the texts of a case in a folder and prints how to run it there."""
-    Path(folder).mkdir(parents=True, exist_ok=True)
-    placed(case, folder)
-    print(f"cd {shlex.quote(str(folder))} && assemble {shlex.join(case.words)} --rhs - --mode ..")
-
-
 def main():
     parser = argparse.ArgumentParser(description=__doc__, formatter_class=argparse.RawDescriptionHelpFormatter)
     add_program_options(parser, "none")
-    parser.add_argument("--count", type=int, default=100, help="meshes (default 100)")
+    add_case_options(parser, count=100, limit=20.0)
     parser.add_argument("--plans", type=int, default=10, help="runs with random plans for each mesh (default 10)")
-    parser.add_argument("--seed", type=int, default=1)
-    parser.add_argument("--first", type=int, default=0, help="the first case's number")
-    parser.add_argument("--only", type=int, metavar="K", help="case K alone")
-    parser.add_argument("--keep", metavar="FOLDER", help="leave the texts of case K there")
-    parser.add_argument("--limit", type=float, default=20.0, help="seconds for a run (default 20)")
-    parser.add_argument("--jobs", type=int, default=1, help="cases at a time")
     chosen = parser.parse_args()
-    if chosen.only is not None:
-        chosen.first, chosen.count = chosen.only, 1
-        if chosen.keep:
-            keep(case_of(chosen.seed, chosen.only)[1], chosen.keep)
+    if chosen.only is not None and chosen.keep:
+        _, case = case_of(chosen.seed, chosen.only)
+        kept(chosen.keep, case.texts, case.words + ["--rhs", "-"])
     kinds, wrong = Counter(), 0
-    with ThreadPoolExecutor(chosen.jobs) as pool:
-        numbers = range(chosen.first, chosen.first + chosen.count)
-        for number, case, serial, faults in pool.map(lambda number: soak_case(number, chosen), numbers):
-            kinds[kind_of(serial)] += 1
-            wrong += len(faults)
-            for words, expected, came in faults:
-                print(f"case {number}, {words}: status {came.status} in place of {expected.status}, "
-                      f"differs in {', '.join(differences(expected, came)) or 'time'}")
-                print(f"  repeat: bench/soak.py --program {chosen.program} --seed {chosen.seed} --only {number} "
-                      f"--keep FOLDER", flush=True)
-    for kind, times in sorted(kinds.items()):
-        print(f"{times:7}  {kind}")
-    print(f"{chosen.count} meshes, {chosen.count * chosen.plans} runs with threads, {wrong} differ")
+    for number, case, serial, faults in in_turn(chosen, lambda number: soak_case(number, chosen)):
+        kinds[kind_of(serial)] += 1
+        wrong += len(faults)
+        for words, expected, came in faults:
+            print(f"case {number}, {words}: status {came.status} in place of {expected.status}, "
+                  f"differs in {', '.join(differences(expected, came)) or 'time'}")
+            print(f"  repeat: bench/soak.py --program {chosen.program} --seed {chosen.seed} --only {number} "
+                  f"--keep FOLDER", flush=True)
+    told(kinds)
+    print(f"{kinds.total()} meshes, {kinds.total() * chosen.plans} runs with threads, {wrong} differ")
     raise SystemExit(1 if wrong else 0)
 
 
