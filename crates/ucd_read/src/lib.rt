@@ -5,6 +5,7 @@ mod cells;
 mod fault;
 mod header;
 mod nodes;
+mod places;
 mod reader;
 #[cfg(test)]
 mod tests;
