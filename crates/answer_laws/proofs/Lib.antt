@@ -1,0 +1,11 @@
+mod Steps
+mod Readings
+mod Sums
+mod Targets
+mod One
+mod Known
+mod Runs
+mod SomeWords
+mod SomeReadings
+mod SomeSums
+mod Some

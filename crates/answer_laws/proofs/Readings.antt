@@ -1,0 +1,88 @@
+-- A source whose texts are known has one mesh and one problem.
+use Rattle.std.proofs.Common.{◌≡◌, ◌∙◌, sym, ap, subst, ℕ, ◌<◌, ◌≤◌, List, length, arith}
+use Rattle.std.specs.Prelude.{Some, None, Ok, Err}
+use Rattle.std.specs.declared.option.Option.{Option}
+use Rattle.std.specs.declared.result.Result.{Result}
+use Rattle.std.proofs.lemmas.Option.{same_Some}
+use Rattle.fem_text.specs.declared.fault.TextFault.{TextFault}
+use Rattle.fem_fixed.specs.Mesh.{Mesh}
+use Rattle.ucd_read.specs.declared.fault.UcdKind.{UcdKind}
+use Rattle.ucd_read.specs.Faults.{UcdFault}
+use Rattle.ucd_read.specs.Ucd.{Ucd, UcdFaultAt}
+use Rattle.problem_read.specs.declared.fault.ProblemKind.{ProblemKind}
+use Rattle.problem_read.specs.Entries.{ProblemParts}
+use Rattle.problem_read.specs.Problem.{ProblemText, ProblemFaultAt}
+use Rattle.diagnostics.specs.declared.refusal.Refusal.{Refusal}
+use Rattle.diagnostics.specs.declared.ending.Role.{Role}
+use Rattle.diagnostics.specs.declared.ending.Role.TheVariants as roles
+use Rattle.diagnostics.specs.Layers.{of_mesh_text, of_problem_text}
+use Rattle.diagnostics.specs.Stages.{Then}
+use Rattle.run_texts.specs.Texts.{Texts, text_limit, TextFor, MeshIn, ProblemIn, MeshOf, ProblemOf, ReadTexts}
+use Rattle.answer_laws.specs.Parts.{HaveOneReading}
+use Rattle.answer_laws.proofs.Steps.{Agree, one_after, one_said}
+
+not_some : {A P : Type 0} (a : A) → ◌≡◌ {A = Option A} None (Some a) → P
+not_some a h = cc
+
+too_long : (text other : List ℕ) (limit : ℕ) → text ≡ other → length other ≤ limit → limit < length text → ⊥
+too_long text other limit is short long = (let e : length text ≡ length other = ap length is in omega (arith, e, short, long))
+
+one_text : (role : Role) (known : Option (List ℕ)) → Agree (TextFor role known) (TextFor role known)
+one_text role known (Ok a) (Ok b) h k = ap Ok (same_Some a b (sym h.0 ∙ k.0))
+one_text role None (Ok a) (Err q) h k = not_some a h.0
+one_text role (Some text) (Ok a) (Err q) h k = absurd (too_long text a text_limit (same_Some text a h.0) h.1 k.0)
+one_text role None (Err r) (Ok b) h k = not_some b k.0
+one_text role (Some text) (Err r) (Ok b) h k = absurd (too_long text b text_limit (same_Some text b k.0) k.1 h.0)
+one_text role None (Err r) (Err q) h k = ap Err (h ∙ sym k)
+one_text role (Some text) (Err r) (Err q) h k = ap Err (h.1 ∙ sym k.1)
+
+abbrev Pair : Type 0
+Pair = Result (Mesh × ProblemParts) Refusal
+
+-- Each text has one reading, as the laws of the readers say.
+module _ (one_mesh : (text : List ℕ) (first second : Mesh) → Ucd text first → Ucd text second → first ≡ second)
+    (mesh_fault : (text : List ℕ) (kind other : UcdKind) (line another : ℕ) → UcdFaultAt text kind line → UcdFaultAt text other another → (kind ≡ other) × (line ≡ another))
+    (mesh_no_fault : (text : List ℕ) (mesh : Mesh) (kind : UcdKind) (line : ℕ) → Ucd text mesh → UcdFaultAt text kind line → ⊥)
+    (one_problem : (text : List ℕ) (first second : ProblemParts) → ProblemText text first → ProblemText text second → first ≡ second)
+    (problem_fault : (text : List ℕ) (kind other : ProblemKind) (line another : ℕ) →
+    ProblemFaultAt text kind line → ProblemFaultAt text other another → (kind ≡ other) × (line ≡ another))
+    (problem_no_fault : (text : List ℕ) (parts : ProblemParts) (kind : ProblemKind) (line : ℕ) → ProblemText text parts → ProblemFaultAt text kind line → ⊥) where
+  same_mesh_end : (text : List ℕ) (f g : UcdFault) → UcdFaultAt text f.kind f.line → UcdFaultAt text g.kind g.line → of_mesh_text f.kind f.line ≡ of_mesh_text g.kind g.line
+  same_mesh_end text f g h k = (let s = mesh_fault text f.kind g.kind f.line g.line h k in λ i. of_mesh_text (s.0 i) (s.1 i))
+
+  one_mesh_in : (text : List ℕ) → Agree (MeshIn text) (MeshIn text)
+  one_mesh_in text (Ok m) (Ok n) h k = ap Ok (one_mesh text m n h k)
+  one_mesh_in text (Ok m) (Err q) h k = absurd (mesh_no_fault text m k.0.kind k.0.line h k.1)
+  one_mesh_in text (Err r) (Ok n) h k = absurd (mesh_no_fault text n h.0.kind h.0.line k h.1)
+  one_mesh_in text (Err r) (Err q) h k =
+      ap Err (one_said (λ (f : UcdFault). of_mesh_text f.kind f.line) (λ (f : UcdFault). UcdFaultAt text f.kind f.line) (same_mesh_end text) r q h k)
+
+  same_problem_end : (text : List ℕ) (f g : TextFault ProblemKind) → ProblemFaultAt text f.kind f.line → ProblemFaultAt text g.kind g.line →
+      of_problem_text f.kind f.line ≡ of_problem_text g.kind g.line
+  same_problem_end text f g h k =
+      (let s = problem_fault text f.kind g.kind f.line g.line h k in λ i. of_problem_text (s.0 i) (s.1 i))
+
+  one_problem_in : (text : List ℕ) → Agree (ProblemIn text) (ProblemIn text)
+  one_problem_in text (Ok p) (Ok q) h k = ap Ok (one_problem text p q h k)
+  one_problem_in text (Ok p) (Err q) h k = absurd (problem_no_fault text p k.0.kind k.0.line h k.1)
+  one_problem_in text (Err r) (Ok q) h k = absurd (problem_no_fault text q h.0.kind h.0.line k h.1)
+  one_problem_in text (Err r) (Err q) h k =
+      ap Err (one_said (λ (f : TextFault ProblemKind). of_problem_text f.kind f.line) (λ (f : TextFault ProblemKind). ProblemFaultAt text f.kind f.line) (same_problem_end text) r q h k)
+
+  one_mesh_of : (known : Option (List ℕ)) → Agree (MeshOf known) (MeshOf known)
+  one_mesh_of known = one_after (TextFor roles.Mesh known) (TextFor roles.Mesh known) MeshIn MeshIn (one_text roles.Mesh known) (λ text is. one_mesh_in text)
+
+  one_problem_of : (known : Option (List ℕ)) → Agree (ProblemOf known) (ProblemOf known)
+  one_problem_of known = one_after (TextFor roles.Problem known) (TextFor roles.Problem known) ProblemIn ProblemIn (one_text roles.Problem known) (λ text is. one_problem_in text)
+
+  one_read_texts : (known : Texts) → Agree (ReadTexts known) (ReadTexts known)
+  one_read_texts known =
+      let next : Mesh → Pair → Type 0 = λ mesh. Then (ProblemOf known.problem) (λ problem outcome. outcome ≡ Ok (mesh, problem)) in
+      one_after (MeshOf known.mesh) (MeshOf known.mesh) next next (one_mesh_of known.mesh)
+      (λ mesh is. let last : ProblemParts → Pair → Type 0 = λ problem outcome. outcome ≡ Ok (mesh, problem) in
+      one_after (ProblemOf known.problem) (ProblemOf known.problem) last last (one_problem_of known.problem) (λ problem made a b h k. h ∙ sym k))
+
+  pub one_read : HaveOneReading
+  one_read holds source known a b h k =
+      let P : Texts → Type 0 = λ both. ReadTexts both a in
+      one_read_texts k.0 a b (subst P (known h.0 k.0 h.1 k.1) h.2) k.2

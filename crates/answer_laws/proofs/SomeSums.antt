@@ -1,0 +1,62 @@
+-- A system has texts, or a refusal.
+use Rattle.std.proofs.Common.{refl, ℕ, List, [], ◌∷◌, map}
+use Rattle.std.specs.Prelude.{Some, None, Ok, Err}
+use Rattle.std.specs.declared.option.Option.{Option}
+use Rattle.std.specs.declared.result.Result.{Result}
+use Rattle.serial_sum.specs.SerialSum.{SumIs}
+use Rattle.serial_sum.specs.declared.part.CellPart.{CellPart}
+use Rattle.serial_sum.specs.declared.sum.AssembleFault.TheVariants as faults
+use Rattle.serial_sum.specs.declared.sum.Failure.{Failure}
+use Rattle.serial_sum.specs.declared.sum.Failure.TheVariants.{Local, Sum}
+use Rattle.sparsity.specs.declared.rows.Row.{Row}
+use Rattle.matrix_market.specs.Texts.{pattern_text}
+use Rattle.color_texts.specs.Text.{colors_text}
+use Rattle.mesh_loop.specs.Setup.{MeshProblem, cells_of, pattern_of, written_rows}
+use Rattle.mesh_loop.specs.Sum.{parts_of}
+use Rattle.run_words.specs.declared.options.Mode.{Mode}
+use Rattle.run_words.specs.declared.options.Mode.TheVariants as modes
+use Rattle.run_words.specs.Choice.{Choice, Output}
+use Rattle.diagnostics.specs.declared.refusal.Refusal.TheVariants as refusals
+use Rattle.system_texts.specs.Sums.{IsOrderOf, SummedIn, Summed}
+use Rattle.system_texts.specs.Texts.{first_target, sum_targets, TextsOf, SystemTexts}
+use Rattle.answer_laws.specs.Existence.{HasItsColorings}
+use Rattle.answer_laws.proofs.Steps.{HasAnOutcome, some_after}
+
+summed_in : (order : List ℕ) (digits : ℕ) (s : MeshProblem) (sum : Result (List Row) Failure) → SumIs digits (pattern_of s) (parts_of s order) sum → HasAnOutcome (SummedIn order digits s)
+summed_in order digits s (Ok rows) is = (Ok rows, is)
+summed_in order digits s (Err (Local cell fault)) is = (Err (refusals.Local cell fault), (faults.Local cell fault, is, refl))
+summed_in order digits s (Err (Sum cell row)) is = (Err (refusals.Sum cell row), (faults.Sum cell row, is, refl))
+
+-- sums in this order are those of the mode
+summed : (mode : Mode) (digits : ℕ) (s : MeshProblem) (order : List ℕ) → IsOrderOf mode s order → HasAnOutcome (SummedIn order digits s) → HasAnOutcome (Summed mode digits s)
+summed mode digits s order is (Ok rows, sum) = (Ok (Some rows), (order, is, sum))
+summed mode digits s order is (Err refusal, sum) = (Err refusal, (order, is, sum))
+
+some_texts_of : (mode : Mode) (output : Output) (s : MeshProblem) → HasItsColorings mode → (rows : Option (List Row)) (digits : ℕ) → Summed mode digits s (Ok rows) → HasAnOutcome (TextsOf mode output s rows)
+some_texts_of mode output s has (Some rows) digits is = (Ok (sum_targets output s rows), refl)
+some_texts_of modes.Pattern output s has None digits is = (Ok (first_target output (pattern_text (pattern_of s)) ∷ []), (pattern_text (pattern_of s), refl, refl))
+some_texts_of modes.Colors output s has None digits is =
+    let coloring = has (map (written_rows s) (cells_of s)) in
+    (Ok (first_target output (colors_text coloring.0) ∷ []), (colors_text coloring.0, (coloring.0, coloring.1, refl), refl))
+some_texts_of modes.Serial output s has None digits is = absurd is
+some_texts_of modes.Ordered output s has None digits is = absurd is
+some_texts_of modes.Colored output s has None digits is = absurd is
+
+-- Each list of parts has a sum, as its law says.
+module _ (some_sum : (digits : ℕ) (pattern : List (List ℕ)) (parts : List CellPart) → (a : Result (List Row) Failure) × SumIs digits pattern parts a) where
+  some_summed_in : (order : List ℕ) (digits : ℕ) (s : MeshProblem) → HasAnOutcome (SummedIn order digits s)
+  some_summed_in order digits s = (let sum = some_sum digits (pattern_of s) (parts_of s order) in summed_in order digits s sum.0 sum.1)
+
+  some_summed : (mode : Mode) (digits : ℕ) (s : MeshProblem) → HasItsColorings mode → HasAnOutcome (Summed mode digits s)
+  some_summed modes.Serial digits s has = summed modes.Serial digits s (cells_of s) refl (some_summed_in (cells_of s) digits s)
+  some_summed modes.Ordered digits s has = summed modes.Ordered digits s (cells_of s) refl (some_summed_in (cells_of s) digits s)
+  some_summed modes.Colored digits s has =
+      let coloring = has (map (written_rows s) (cells_of s)) in
+      summed modes.Colored digits s coloring.0.order (coloring.0, coloring.1, refl) (some_summed_in coloring.0.order digits s)
+  some_summed modes.Pattern digits s has = (Ok None, tt)
+  some_summed modes.Colors digits s has = (Ok None, tt)
+
+  pub some_system_texts : (choice : Choice) (s : MeshProblem) → HasItsColorings choice.mode → HasAnOutcome (SystemTexts choice s)
+  some_system_texts choice s has =
+      some_after (Summed choice.mode choice.digits s) (TextsOf choice.mode choice.output s) (some_summed choice.mode choice.digits s has)
+      (λ rows is. some_texts_of choice.mode choice.output s has rows choice.digits is)

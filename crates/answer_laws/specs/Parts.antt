@@ -1,0 +1,46 @@
+-- What the laws of answers are made of: each part of the work has one outcome at most, and one at least.
+use Rattle.std.specs.Prelude.{◌≡◌, ℕ, List, Bool, Ok}
+use Rattle.std.specs.declared.option.Option.{Option}
+use Rattle.std.specs.declared.result.Result.{Result}
+use Rattle.fem_fixed.specs.Mesh.{Mesh}
+use Rattle.fem_text.specs.Outside.{Held}
+use Rattle.problem_read.specs.Entries.{ProblemParts}
+use Rattle.mesh_loop.specs.Setup.{MeshProblem}
+use Rattle.run_words.specs.declared.options.Mode.{Mode}
+use Rattle.run_words.specs.Choice.{Choice, Source}
+use Rattle.run_outputs.specs.Targets.{Target}
+use Rattle.run_texts.specs.Texts.{Texts, AreTextsOf}
+use Rattle.run_texts.specs.Read.{SourceRead}
+use Rattle.diagnostics.specs.declared.refusal.Refusal.{Refusal}
+use Rattle.diagnostics.specs.Stages.{HasOneOutcome}
+use Rattle.system_texts.specs.Texts.{SystemTexts}
+use Rattle.system_laws.specs.Same.{IsSameSystem}
+use Rattle.assemble_core.specs.Answer.{Asked, Answers}
+use Rattle.answer_laws.specs.Existence.{HasItsColorings}
+
+-- the texts of a source are known: no two pairs of texts can be the ones that stand there
+abbrev pub AreKnown : Option Held → Source → Type 0
+AreKnown holds source = (a b : Texts) → AreTextsOf holds source a → AreTextsOf holds source b → a ≡ b
+
+-- a source whose texts are known has one mesh and one problem, or one refusal
+abbrev pub HaveOneReading : Type 0
+HaveOneReading = (holds : Option Held) (source : Source) → AreKnown holds source → HasOneOutcome (SourceRead holds source)
+
+-- set-ups of one system have the same texts, or the same refusal
+abbrev pub HaveOneListOfTexts : Type 0
+HaveOneListOfTexts =
+    (choice : Choice) (s t : MeshProblem) → IsSameSystem s t → (a b : Result (List Target) Refusal) → SystemTexts choice s a → SystemTexts choice t b → a ≡ b
+
+-- words have one answer where the texts of what they ask for are known
+abbrev pub HaveOneAnswerWhereKnown : Type 0
+HaveOneAnswerWhereKnown =
+    (takes : Mode → Bool) (words : List (List ℕ)) (holds : Option Held) → ((choice : Choice) → Asked takes words (Ok choice) → AreKnown holds choice.source) →
+    HasOneOutcome (Answers takes words holds)
+
+-- a source has a mesh and a problem, or a refusal
+abbrev pub HaveAReading : Type 0
+HaveAReading = (holds : Option Held) (source : Source) → (outcome : Result (Mesh × ProblemParts) Refusal) × SourceRead holds source outcome
+
+-- a set-up has texts, or a refusal
+abbrev pub HaveAListOfTexts : Type 0
+HaveAListOfTexts = (choice : Choice) (s : MeshProblem) → HasItsColorings choice.mode → (outcome : Result (List Target) Refusal) × SystemTexts choice s outcome

@@ -1,0 +1,69 @@
+ghost use Rattle.answer_laws.specs.Laws.{HaveOneAnswer, HaveOneAnswerWithoutTexts};
+ghost use Rattle.answer_laws.specs.Runs.{DefinedTextsAreWritten, DefinedRefusalsAreTold, ZeroTellsTheTexts, OthersTellTheRefusal};
+ghost use Rattle.answer_laws.specs.Existence.{HaveAnAnswer};
+
+use crate::parts::{
+    known_texts_have_one_answer, sources_have_a_reading, systems_have_a_list_of_texts,
+};
+use system_laws::{a_mesh_has_a_set_up, texts_have_quadrilaterals};
+
+/// Over a store that tells what it holds, words have at most one answer: the same texts for the same destinations, or
+/// the same refusal. So a run with status 0 (`IsRun`) wrote the one list of texts that its words and the held texts
+/// define, and all runs with status 0 on these words over these texts wrote the same.
+pub fn words_have_one_answer()
+    ensures { HaveOneAnswer }
+{
+    known_texts_have_one_answer();
+}
+
+/// Words that are refused, or that ask for a generated grid, have at most one answer over each store, whether or not
+/// it tells what it holds. So a run with status 0 (`IsRun`) on such words wrote the one list of texts that the words
+/// alone define, also over files and streams, of which nothing is told.
+pub fn words_without_texts_have_one_answer()
+    ensures { HaveOneAnswerWithoutTexts }
+{
+    known_texts_have_one_answer();
+}
+
+/// Over a store that tells what it holds, and for words that read no text over each store: where words and texts define
+/// texts, a run is no refusal. Its status is 0 and it wrote those texts and nothing else, or its status is 10, 11 or 12,
+/// since a read, a write or a put failed or memory ran out.
+pub fn defined_texts_are_written()
+    ensures { DefinedTextsAreWritten }
+{
+    words_have_one_answer();
+    words_without_texts_have_one_answer();
+}
+
+/// Over such stores and for such words: where words and texts define a refusal, a run writes nothing. Its status is that
+/// of the refusal and the diagnostics took its line, or a prefix of it where they failed; or its status is 10 or 12,
+/// since a read failed or memory ran out.
+pub fn a_defined_refusal_is_told()
+    ensures { DefinedRefusalsAreTold }
+{
+    words_have_one_answer();
+    words_without_texts_have_one_answer();
+}
+
+/// Over such stores and for such words the status of a run tells the answer of its words and texts: with status 0 the
+/// only answer is the texts that were written, and with each status but 0, 10, 11 and 12 it is a refusal with this
+/// status, whose line the diagnostics took, or a prefix of it where they failed.
+pub fn a_status_tells_the_answer()
+    ensures written { ZeroTellsTheTexts }
+    ensures refused { OthersTellTheRefusal }
+{
+    words_have_one_answer();
+    words_without_texts_have_one_answer();
+}
+
+/// Words have an answer over each store, so what is said of answers is never empty: texts or a refusal. In the modes
+/// `colored` and `colors` that is said as far as the cells of a system have a colouring.
+pub fn words_have_an_answer()
+    ensures { HaveAnAnswer }
+{
+    run_words::one_reading();
+    sources_have_a_reading();
+    texts_have_quadrilaterals();
+    a_mesh_has_a_set_up();
+    systems_have_a_list_of_texts();
+}

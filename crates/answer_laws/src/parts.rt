@@ -1,0 +1,46 @@
+ghost use Rattle.answer_laws.specs.Parts.{HaveOneReading, HaveOneListOfTexts, HaveOneAnswerWhereKnown, HaveAReading, HaveAListOfTexts};
+
+use conflict_coloring::cells_have_one_coloring;
+use serial_sum::{sum_exists, sum_is_unique};
+use system_laws::a_mesh_has_one_system;
+
+/// A source whose texts are known has one mesh and one problem, or one refusal.
+fn sources_have_one_reading()
+    ensures { HaveOneReading }
+{
+    ucd_read::one_reading();
+    problem_read::one_reading();
+}
+
+/// Set-ups of one system have the same texts, or the same refusal.
+fn systems_have_one_list_of_texts()
+    ensures { HaveOneListOfTexts }
+{
+    sum_is_unique();
+    cells_have_one_coloring();
+}
+
+/// Words have one answer at most where the texts of what they ask for are known.
+pub(crate) fn known_texts_have_one_answer()
+    ensures { HaveOneAnswerWhereKnown }
+{
+    run_words::one_reading();
+    sources_have_one_reading();
+    a_mesh_has_one_system();
+    systems_have_one_list_of_texts();
+}
+
+/// A source has a mesh and a problem, or a refusal.
+pub(crate) fn sources_have_a_reading()
+    ensures { HaveAReading }
+{
+    ucd_read::one_reading();
+    problem_read::one_reading();
+}
+
+/// A set-up has texts, or a refusal.
+pub(crate) fn systems_have_a_list_of_texts()
+    ensures { HaveAListOfTexts }
+{
+    sum_exists();
+}
