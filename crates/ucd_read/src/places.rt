@@ -38,8 +38,9 @@ impl Places {
         ensures { OnOk result ((other : ℕ) → place_in self.new other ≡ (if id == other then Some place else place_in self.old other)) }
     {
         match self {
-            Places::Counted(last) if place == *last && id.checked_sub(1) == Some(place) => *last =
-                id,
+            Places::Counted(last) if place == *last && id.checked_sub(1) == Some(place) => {
+                *last = id;
+            }
             Places::Counted(last) => {
                 let mut map = counted_map(alloc, *last)?;
                 map.insert(id, place)?;
