@@ -32,7 +32,7 @@ EndsDefining holds choice (ReadFault role) = GoesOnTo holds choice.source role
 EndsDefining holds choice (WriteFault output) = ⊥
 EndsDefining holds choice NoMemory = Unit {0}
 
--- at most one read was made for each text that the words name, and none where they are refused, and all went well
+-- no more reads than the words name texts were made, none where they are refused, and all went well
 abbrev pub ReadsWell : (Mode → Bool) → List (List ℕ) → Counts → Counts → Type 0
 ReadsWell takes words before now = (now ≡ before) ⊎ ((choice : Choice) × Asked takes words (Ok choice) × CallsEnd (names_in choice.source) false before now)
 
