@@ -5,7 +5,6 @@ mod Targets
 mod One
 mod Known
 mod Runs
-mod SomeWords
 mod SomeReadings
 mod SomeSums
 mod Some

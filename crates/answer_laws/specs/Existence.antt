@@ -1,5 +1,5 @@
--- Words and texts have an answer.
-use Rattle.std.specs.Prelude.{ℕ, List, Bool, Ok}
+-- What words ask for has an answer.
+use Rattle.std.specs.Prelude.{ℕ, List}
 use Rattle.std.specs.declared.option.Option.{Option}
 use Rattle.std.specs.declared.result.Result.{Result}
 use Rattle.fem_text.specs.Outside.{Held}
@@ -9,7 +9,7 @@ use Rattle.run_words.specs.declared.options.Mode.TheVariants as modes
 use Rattle.run_words.specs.Choice.{Choice}
 use Rattle.run_outputs.specs.Targets.{Target}
 use Rattle.diagnostics.specs.declared.refusal.Refusal.{Refusal}
-use Rattle.assemble_core.specs.Answer.{Asked, Answers}
+use Rattle.assemble_core.specs.Answer.{Defines}
 
 -- cells have a colouring
 abbrev pub HaveAColoring : Type 0
@@ -23,8 +23,6 @@ HasItsColorings modes.Colored = HaveAColoring
 HasItsColorings modes.Pattern = Unit {0}
 HasItsColorings modes.Colors = HaveAColoring
 
--- words have an answer over each store, in the modes that colour cells as far as cells have a colouring
+-- a choice of words has an answer over each store, in the modes that colour cells as far as cells have a colouring
 abbrev pub HaveAnAnswer : Type 0
-HaveAnAnswer =
-    (takes : Mode → Bool) (words : List (List ℕ)) (holds : Option Held) → ((choice : Choice) → Asked takes words (Ok choice) → HasItsColorings choice.mode) →
-    (answer : Result (List Target) Refusal) × Answers takes words holds answer
+HaveAnAnswer = (holds : Option Held) (choice : Choice) → HasItsColorings choice.mode → (answer : Result (List Target) Refusal) × Defines holds choice answer

@@ -56,12 +56,11 @@ pub fn a_status_tells_the_answer()
     words_without_texts_have_one_answer();
 }
 
-/// Words have an answer over each store, so what is said of answers is never empty: texts or a refusal. In the modes
-/// `colored` and `colors` that is said as far as the cells of a system have a colouring.
-pub fn words_have_an_answer()
+/// What words ask for has an answer over each store, so what is said of answers is never empty: texts or a refusal. In
+/// the modes `colored` and `colors` that is said as far as the cells of a system have a colouring.
+pub fn choices_have_an_answer()
     ensures { HaveAnAnswer }
 {
-    run_words::one_reading();
     sources_have_a_reading();
     texts_have_quadrilaterals();
     a_mesh_has_a_set_up();

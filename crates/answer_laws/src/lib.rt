@@ -6,6 +6,6 @@ mod laws;
 mod parts;
 
 pub use laws::{
-    a_defined_refusal_is_told, a_status_tells_the_answer, defined_texts_are_written,
-    words_have_an_answer, words_have_one_answer, words_without_texts_have_one_answer,
+    a_defined_refusal_is_told, a_status_tells_the_answer, choices_have_an_answer,
+    defined_texts_are_written, words_have_one_answer, words_without_texts_have_one_answer,
 };
