@@ -3,7 +3,6 @@ use Rattle.std.proofs.Common.{◌≡◌, ap, sym, ◌∙◌, ℕ, List, Bool, tr
 use Rattle.run_words.specs.declared.options.Mode.{Mode}
 use Rattle.run_words.specs.Choice.{Choice}
 use Rattle.run_words.specs.Words.{AskFor, AskForNothing}
-use Rattle.run_words.proofs.Asked.{choice_is_one}
 use Rattle.assemble_core.specs.Modes.{plain_modes}
 use Rattle.assemble_core.specs.Answer.{AreRefused}
 
@@ -12,5 +11,6 @@ pub none_refused : (takes : Mode → Bool) (words : List (List ℕ)) → AskForN
 none_refused takes words none choice asked = absurd (none choice asked)
 
 -- they ask for a mode that is not taken
-pub other_refused : (words : List (List ℕ)) (choice : Choice) → AskFor words choice → plain_modes choice.mode ≡ false → AreRefused plain_modes words
-other_refused words choice asked other another also = ap (λ (c : Choice). plain_modes c.mode) (choice_is_one words another choice also asked) ∙ other
+pub other_refused : ((words : List (List ℕ)) (first second : Choice) → AskFor words first → AskFor words second → first ≡ second) → (words : List (List ℕ)) (choice : Choice) → AskFor words choice →
+    plain_modes choice.mode ≡ false → AreRefused plain_modes words
+other_refused one words choice asked other another also = ap (λ (c : Choice). plain_modes c.mode) (one words another choice also asked) ∙ other

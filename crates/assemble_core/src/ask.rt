@@ -5,7 +5,7 @@ ghost use Rattle.diagnostics.specs.declared.refusal.Refusal.TheVariants.{Words};
 ghost use Rattle.assemble_core.specs.Modes.{plain_modes, all_modes};
 ghost use Rattle.assemble_core.specs.Answer.{Asked};
 
-use run_words::{Mode, Options, choices_are_within, read_words};
+use run_words::{Mode, Options, choices_are_within, one_reading, read_words};
 
 /// What the words ask of a run that does not wait.
 #[tactic(auto, using(crate::proofs::Asking::other_refused))]
@@ -15,6 +15,7 @@ pub(crate) fn plain_options(words: &[String]) -> Option<Options<'_>>
     ensures refused { IfNone result (Asked plain_modes (map string_bytes words.now) (Err Words)) }
 {
     choices_are_within();
+    one_reading();
     match read_words(words) {
         Some(options) => {
             if is_plain(options.mode) {
