@@ -73,6 +73,7 @@ fn all_counts(
 {
     let counts: Result<Vec<usize>, NoMemory> = (0..count_pieces(size))
         .into_par_iter()
+        .with_min_len(1)
         .map(
             |p: u32| -> Result<usize, NoMemory>
                 requires { (p < pieces_in size) × All (All (λ j. j < size)) lists.now × (length chains.now.heads.items ≡ size) × AreChains lists.now chains.now.heads.items chains.now.nodes.items (share_list lists.now) }

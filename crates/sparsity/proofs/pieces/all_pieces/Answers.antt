@@ -15,14 +15,14 @@ collect-requires-clause-ready g c κs within =
     let Ready : ℕ → Type 0 = λ p. (p < pieces_in c.args.size) × All (All (λ j. j < c.args.size)) c.args.lists.now × (length c.args.chains.now.heads.items ≡ c.args.size)
     × AreChains c.args.lists.now c.args.chains.now.heads.items c.args.chains.now.nodes.items (share_list c.args.lists.now) in
     let ready = nat_range-All Ready 0 (pieces_in c.args.size) (λ p low high. (high, c.requires.within, c.requires.size, c.requires.chains)) in
-    rw (c.map.ensures.base, c.map.ensures.f, ends.0, ends.1, c.count_pieces.ensures) (λ k d lt. (ready k d lt, λ y p. tt))
+    rw (c.map.ensures.base, c.map.ensures.f, c.with_min_len.ensures.base, ends.0, ends.1, c.count_pieces.ensures) (λ k d lt. (ready k d lt, λ y p. tt))
 
 pub returns : goal.returns
 returns g c =
     let ends = c.into_par_iter.ensures in
     let whole : c.count_pieces.result - 0 ≡ pieces_in c.args.size = omega (arith, c.count_pieces.ensures) in
     let h = c.in_ok-pieces.ensures in
-    let chain = rw (c.map.ensures.base, c.map.ensures.f) at h.1 in
+    let chain = rw (c.map.ensures.base, c.map.ensures.f, c.with_min_len.ensures.base) at h.1 in
     let places = chain.1 ∙ (λ i. nat_range (ends.0 i) (ends.1 i)) ∙ ap (range_with_len 0) whole in
     let Made : List ℕ → Type 0 = λ ns. IfOk c.in_ok-pieces.pieces (λ pieces. map (λ piece. piece) pieces.items ≡ map (piece_of c.args.size c.args.lists.now) ns) in
     subst Made places (all_made (λ piece. piece) (λ v. v.items) (piece_of c.args.size c.args.lists.now) chain.0 h.0 c.in_ok-pieces.pieces chain.2 h.2)
