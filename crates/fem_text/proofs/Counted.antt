@@ -1,7 +1,9 @@
 -- Counts after several calls.
-use Rattle.std.proofs.Common.{◌≡◌, ◌∙◌, ap, refl, ℕ, zero, suc, ◌+◌, true, false, arith}
+use Rattle.std.proofs.Common.{◌≡◌, ◌∙◌, ap, refl, ℕ, zero, suc, ◌+◌, true, false, arith, rules}
+use Rattle.std.specs.Prelude.{IsOk, Ok, Err}
+use Rattle.std.specs.declared.result.Result.{Result}
 use Rattle.fem_text.specs.declared.counts.Counts.{Counts}
-use Rattle.fem_text.specs.Counts.{after_call, after_good, AllWell, EndsInFault, Rose}
+use Rattle.fem_text.specs.Counts.{after_call, after_good, none_failed, AllWell, EndsInFault, Rose, HasCause}
 
 -- calls that went well leave the count of faults
 pub good_faults : (many : ℕ) (before : Counts) → (after_good many before).faults ≡ before.faults
@@ -35,3 +37,14 @@ one_well before now e = (1, e)
 
 pub one_fault : (before now : Counts) → now ≡ after_call true before → EndsInFault before now
 one_fault before now e = (0, e)
+
+-- counts that never tell a fault
+pub none_rise : (before now : ℕ) → Rose (none_failed before) (none_failed now) → ⊥
+none_rise before now rose = (let e : 0 ≡ 1 = rose in absurd (omega (arith, e)))
+
+pub none_ends : (before now : ℕ) → EndsInFault (none_failed before) (none_failed now) → ⊥
+none_ends before now (many, e) = (let told : false ≡ true = ap (λ (c : Counts). c.failed_last) e in search (rules, told))
+
+pub no_cause : {X E : Type 0} (before now : ℕ) (result : Result X E) → HasCause (none_failed before) (none_failed now) result → IsOk result
+no_cause before now (Ok value) cause = search rules
+no_cause before now (Err kind) cause = absurd (none_ends before now cause.failed)

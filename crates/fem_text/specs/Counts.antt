@@ -11,6 +11,10 @@ one_more count = min (count + 1) (2 ^ 64 - 1)
 abbrev pub no_calls : Counts
 no_calls = record { calls = 0; faults = 0; failed_last = false }
 
+-- so many calls, none of which failed
+abbrev pub none_failed : ℕ → Counts
+none_failed calls = record { calls = calls; faults = 0; failed_last = false }
+
 -- after one more call, which failed or didn't
 abbrev pub after_call : Bool → Counts → Counts
 after_call failed before = record {

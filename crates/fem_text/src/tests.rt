@@ -1,7 +1,8 @@
 use crate::streams::{read_up_to, write_all};
 use crate::{
-    DiskStore, Failed, MemorySink, MemoryStore, Sink, StdSink, Store, StoreFault, TextFault,
-    TextLines, WordLines, at_line, exactly, id_at, number_at, put_text,
+    CleanStore, DiskStore, DropSink, Failed, LineWords, MemorySink, MemoryStore, Sink, StdSink,
+    Store, StoreFault, TextFault, TextLine, TextLines, WordLines, at_line, exactly, id_at,
+    number_at, put_text,
 };
 use std::io::{ErrorKind, Read, Write};
 use std::test::Fail;
@@ -61,6 +62,26 @@ fn a_store_fails_where_it_is_told_to(rt: HostRuntime) -> Result<(), Fail> {
 }
 
 #[test]
+fn a_clean_store_holds_what_is_written(rt: HostRuntime) -> Result<(), Fail> {
+    let mut store = CleanStore::new(rt.alloc());
+    store.hold("mesh", b"0123456789")?;
+    assert_eq!(rt; store.write(rt.alloc(), "other", b"new"), Ok(()));
+    let read = store.read(rt.alloc(), "mesh", 4).ok().ok_or("no text")?;
+    assert_eq!(rt; read.as_slice(), b"01234".as_slice());
+    assert_eq!(rt; store.held("other").ok_or("not held")?, b"new".as_slice());
+    assert_eq!(rt;
+        store.read(rt.alloc(), "third", 4).err(),
+        Some(StoreFault::Absent)
+    );
+    Ok(())
+}
+
+#[test]
+fn any_text_is_dropped(rt: HostRuntime) {
+    assert_eq!(rt; put_text(&mut DropSink::new(), &[b'x'; 1200]), Ok(()));
+}
+
+#[test]
 fn lines_and_words(rt: HostRuntime) -> Result<(), Fail> {
     let mut lines = TextLines::new(b"one two\r\n\n\tthree \t four\r\nlast\r");
     let first = lines.next().ok_or("no first line")?;
@@ -83,13 +104,14 @@ fn lines_and_words(rt: HostRuntime) -> Result<(), Fail> {
 fn lines_that_count_and_their_words(rt: HostRuntime) -> Result<(), Fail> {
     let mut lines = WordLines::new(b"\n# none\n7 -0.5\n \n", Some(b'#'));
     let line = lines.next_line().ok_or("no line")?;
-    assert_eq!(rt; exactly(2, 'w', &line), Ok(()));
-    assert_eq!(rt; exactly(3, 'w', &line), Err('w'));
-    assert_eq!(rt; id_at('i', &line, 0), Ok(7));
-    assert_eq!(rt; number_at('n', 65_536, &line, 1), Ok(-32_768));
-    assert_eq!(rt; number_at('n', 32_767, &line, 1), Err('n'));
+    let words = LineWords::of(&line);
+    assert_eq!(rt; exactly(2, 'w', &words), Ok(()));
+    assert_eq!(rt; exactly(3, 'w', &words), Err('w'));
+    assert_eq!(rt; id_at('i', &words, 0), Ok(7));
+    assert_eq!(rt; number_at('n', 65_536, &words, 1), Ok(-32_768));
+    assert_eq!(rt; number_at('n', 32_767, &words, 1), Err('n'));
     assert_eq!(rt;
-        at_line(id_at('i', &line, 1), &line).err(),
+        at_line(id_at('i', &words, 1), &words.line()).err(),
         Some(TextFault { kind: 'i', line: 3 })
     );
     assert_eq!(rt;
@@ -104,6 +126,19 @@ fn lines_that_count_and_their_words(rt: HostRuntime) -> Result<(), Fail> {
         .ok_or("no line")?;
     assert_eq!(rt; third.number, 4);
     assert_eq!(rt; behind.expect('e').ok().ok_or("no line")?.number, 5);
+    Ok(())
+}
+
+#[test]
+fn all_words_are_found(rt: HostRuntime) -> Result<(), Fail> {
+    let words = LineWords::of(&TextLine {
+        number: 1,
+        bytes: b" a\tb c d e f  g h i ",
+    });
+    assert_eq!(rt; words.word(0).ok_or("no word")?, b"a".as_slice());
+    assert_eq!(rt; words.word(7).ok_or("no word")?, b"h".as_slice());
+    assert_eq!(rt; words.word(8).ok_or("no word")?, b"i".as_slice());
+    assert!(rt; words.word(9).is_none());
     Ok(())
 }
 

@@ -1,12 +1,11 @@
 ghost use Rattle.std.specs.Prelude.{◌≡◌, [], OnOk, OnErr, IfErr};
-ghost use Rattle.fem_text.specs.Lines.{words_of};
 ghost use Rattle.fem_text.specs.WordLines.{behind};
 ghost use Rattle.matrix_market.specs.Lines as expected;
 ghost use Rattle.matrix_market.specs.Market.{HasBanner, NoBanner, Follows};
 
 use crate::words::this_word;
 use crate::{MarketFault, MarketKind};
-use fem_text::{TextLine, WordLines, exactly};
+use fem_text::{LineWords, WordLines, exactly};
 
 const NO_BANNER: MarketFault = MarketFault {
     kind: MarketKind::Banner,
@@ -20,7 +19,7 @@ pub(crate) fn read_banner(lines: &mut WordLines, format: &[u8]) -> Result<(), Ma
     ensures err { IfErr result (λ fault. NoBanner format.now lines.old fault.kind fault.line) }
 {
     match lines.next_line() {
-        Some(line) if line.number == 1 => match banner_line(format, &line) {
+        Some(line) if line.number == 1 => match banner_line(format, &LineWords::of(&line)) {
             Ok(()) => Ok(()),
             Err(_) => Err(NO_BANNER),
         },
@@ -29,15 +28,15 @@ pub(crate) fn read_banner(lines: &mut WordLines, format: &[u8]) -> Result<(), Ma
 }
 
 #[tactic(auto, unfolding(crate::specs::Lines::banner_line))]
-fn banner_line(format: &[u8], line: &TextLine) -> Result<(), MarketKind>
-    ensures { result ≡ expected.banner_line format.now (words_of line.now.bytes.now) }
+fn banner_line(format: &[u8], words: &LineWords) -> Result<(), MarketKind>
+    ensures { result ≡ expected.banner_line format.now words.now }
 {
-    exactly(5, MarketKind::Banner, line)?;
-    this_word(MarketKind::Banner, b"%%MatrixMarket", line, 0)?;
-    this_word(MarketKind::Banner, b"matrix", line, 1)?;
-    this_word(MarketKind::Banner, format, line, 2)?;
-    this_word(MarketKind::Banner, b"integer", line, 3)?;
-    this_word(MarketKind::Banner, b"general", line, 4)
+    exactly(5, MarketKind::Banner, words)?;
+    this_word(MarketKind::Banner, b"%%MatrixMarket", words, 0)?;
+    this_word(MarketKind::Banner, b"matrix", words, 1)?;
+    this_word(MarketKind::Banner, format, words, 2)?;
+    this_word(MarketKind::Banner, b"integer", words, 3)?;
+    this_word(MarketKind::Banner, b"general", words, 4)
 }
 
 /// Sees that no line follows.

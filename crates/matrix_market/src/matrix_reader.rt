@@ -1,6 +1,5 @@
 ghost use Rattle.std.specs.Prelude.{◌≡◌, ◌≤◌, length, Ok, IfOk, IfErr, OnOk};
 ghost use Rattle.std.specs.List.{slice_get};
-ghost use Rattle.fem_text.specs.Lines.{words_of};
 ghost use Rattle.fem_text.specs.WordLines.{behind};
 ghost use Rattle.fem_text.specs.Reading.{outcome, IsFault, ReadsAll, FailsFirst};
 ghost use Rattle.matrix_market.specs.Lines as expected;
@@ -12,7 +11,7 @@ use crate::size::{MatrixSize, read_matrix_size};
 use crate::triples::Triples;
 use crate::words::{index_at, value_at};
 use crate::{MarketFault, MarketKind};
-use fem_text::{TextLine, WordLines, at_line, exactly};
+use fem_text::{LineWords, WordLines, at_line, exactly};
 use std::alloc::Global;
 
 /// The matrix of a text in the coordinate format of whole numbers: the words
@@ -59,16 +58,16 @@ fn read_entry(lines: &mut WordLines, size: MatrixSize) -> Result<(u32, u32, i128
     ensures err { IfErr result (λ fault. IsFault MarketKind.TooFew (expected.matrix_entry size) lines.old 0 fault.kind fault.line) }
 {
     let line = lines.expect(MarketKind::TooFew)?;
-    at_line(matrix_entry(size, &line), &line)
+    at_line(matrix_entry(size, &LineWords::of(&line)), &line)
 }
 
 #[tactic(auto, unfolding(crate::specs::Lines::matrix_entry))]
-fn matrix_entry(size: MatrixSize, line: &TextLine) -> Result<(u32, u32, i128), MarketKind>
-    ensures { result ≡ expected.matrix_entry size (words_of line.now.bytes.now) }
+fn matrix_entry(size: MatrixSize, words: &LineWords) -> Result<(u32, u32, i128), MarketKind>
+    ensures { result ≡ expected.matrix_entry size words.now }
 {
-    exactly(3, MarketKind::Entry, line)?;
-    let row = index_at(size.rows, line, 0)?;
-    let column = index_at(size.columns, line, 1)?;
-    let value = value_at(line, 2)?;
+    exactly(3, MarketKind::Entry, words)?;
+    let row = index_at(size.rows, words, 0)?;
+    let column = index_at(size.columns, words, 1)?;
+    let value = value_at(words, 2)?;
     Ok((row, column, value))
 }

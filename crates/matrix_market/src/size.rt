@@ -1,6 +1,5 @@
 ghost use Rattle.std.specs.Prelude.{◌≡◌, ◌≤◌, Ok, IfOk, IfErr, OnOk};
 ghost use Rattle.std.specs.List.{slice_get};
-ghost use Rattle.fem_text.specs.Lines.{words_of};
 ghost use Rattle.fem_text.specs.WordLines.{behind, behind_comments};
 ghost use Rattle.fem_text.specs.Reading.{outcome, IsFault};
 ghost use Rattle.matrix_market.specs.Lines as expected;
@@ -8,7 +7,7 @@ ghost use Rattle.matrix_market.specs.Lines as expected;
 use crate::values::read_count;
 use crate::words::this_word;
 use crate::{MarketFault, MarketKind};
-use fem_text::{TextLine, WordLines, at_line, exactly, id_at};
+use fem_text::{LineWords, WordLines, at_line, exactly, id_at};
 
 /// How many rows, columns and entries a matrix has.
 #[derive(Clone, Copy)]
@@ -25,17 +24,17 @@ pub(crate) fn read_matrix_size(lines: &mut WordLines) -> Result<MatrixSize, Mark
     ensures err { IfErr result (λ fault. IsFault MarketKind.TooFew expected.matrix_size (behind_comments 37 lines.old) 0 fault.kind fault.line) }
 {
     let line = lines.expect_behind_comments(b'%', MarketKind::TooFew)?;
-    at_line(matrix_size(&line), &line)
+    at_line(matrix_size(&LineWords::of(&line)), &line)
 }
 
 #[tactic(auto, unfolding(crate::specs::Lines::matrix_size))]
-fn matrix_size(line: &TextLine) -> Result<MatrixSize, MarketKind>
-    ensures { result ≡ expected.matrix_size (words_of line.now.bytes.now) }
+fn matrix_size(words: &LineWords) -> Result<MatrixSize, MarketKind>
+    ensures { result ≡ expected.matrix_size words.now }
 {
-    exactly(3, MarketKind::Size, line)?;
-    let rows = id_at(MarketKind::Size, line, 0)?;
-    let columns = id_at(MarketKind::Size, line, 1)?;
-    let Some(word) = line.word(2) else {
+    exactly(3, MarketKind::Size, words)?;
+    let rows = id_at(MarketKind::Size, words, 0)?;
+    let columns = id_at(MarketKind::Size, words, 1)?;
+    let Some(word) = words.word(2) else {
         return Err(MarketKind::Size);
     };
     match read_count(word) {
@@ -55,15 +54,15 @@ pub(crate) fn read_vector_size(lines: &mut WordLines) -> Result<u32, MarketFault
     ensures err { IfErr result (λ fault. IsFault MarketKind.TooFew expected.vector_size (behind_comments 37 lines.old) 0 fault.kind fault.line) }
 {
     let line = lines.expect_behind_comments(b'%', MarketKind::TooFew)?;
-    at_line(vector_size(&line), &line)
+    at_line(vector_size(&LineWords::of(&line)), &line)
 }
 
 #[tactic(auto, unfolding(crate::specs::Lines::vector_size))]
-fn vector_size(line: &TextLine) -> Result<u32, MarketKind>
-    ensures { result ≡ expected.vector_size (words_of line.now.bytes.now) }
+fn vector_size(words: &LineWords) -> Result<u32, MarketKind>
+    ensures { result ≡ expected.vector_size words.now }
 {
-    exactly(2, MarketKind::Size, line)?;
-    let rows = id_at(MarketKind::Size, line, 0)?;
-    this_word(MarketKind::Size, b"1", line, 1)?;
+    exactly(2, MarketKind::Size, words)?;
+    let rows = id_at(MarketKind::Size, words, 0)?;
+    this_word(MarketKind::Size, b"1", words, 1)?;
     Ok(rows)
 }

@@ -144,3 +144,98 @@ fn faults_of_matrices(rt: HostRuntime) -> Result<(), Fail> {
     );
     Ok(())
 }
+
+// The matrix of the unit square.
+const SQUARE: &[u8] = b"%%MatrixMarket matrix coordinate integer general
+% unit 2^-32
+4 4 16
+1 1 2863340768
+1 2 -715857120
+1 3 -715857120
+1 4 -1431626528
+2 1 -715857120
+2 2 2863340768
+2 3 -1431626528
+2 4 -715857120
+3 1 -715857120
+3 2 -1431626528
+3 3 2863340768
+3 4 -715857120
+4 1 -1431626528
+4 2 -715857120
+4 3 -715857120
+4 4 2863340768
+";
+
+#[test]
+fn the_system_of_a_square_is_read_back(rt: HostRuntime) -> Result<(), Fail> {
+    let matrix = read_matrix(rt.alloc(), SQUARE)?;
+    assert_eq!(rt; matrix.rows(), 4);
+    assert_eq!(rt; matrix.columns(), 4);
+    assert_eq!(rt; matrix.entries().len(), 16);
+    assert_eq!(rt;
+        matrix.entries().first().copied(),
+        Some((0, 0, 2_863_340_768))
+    );
+    assert_eq!(rt;
+        matrix.entries().get(7).copied(),
+        Some((1, 3, -715_857_120))
+    );
+    assert_eq!(rt;
+        matrix.entries().last().copied(),
+        Some((3, 3, 2_863_340_768))
+    );
+    let side: &[u8] = b"%%MatrixMarket matrix array integer general
+% unit 2^-32
+4 1
+9663676416
+9663676416
+9663676416
+9663676416
+";
+    let values = read_vector(rt.alloc(), side)?;
+    assert_eq!(rt; values.as_slice(), [9_663_676_416i128; 4].as_slice());
+    Ok(())
+}
+
+#[test]
+fn a_matrix_without_its_last_line_has_too_few(rt: HostRuntime) -> Result<(), Fail> {
+    let Some(cut) = SQUARE.strip_suffix(b"4 4 2863340768\n") else {
+        return Err("the last line".into());
+    };
+    let fault = read_matrix(rt.alloc(), cut).err().ok_or("no fault")?;
+    assert_eq!(rt; fault.kind, MarketKind::TooFew);
+    assert_eq!(rt; fault.line, 19);
+    Ok(())
+}
+
+#[test]
+fn the_pattern_of_a_square_is_full(rt: HostRuntime) -> Result<(), Fail> {
+    let mut couplings = Couplings::new(rt.alloc(), 4);
+    couplings.add(&[0, 1, 2, 3])?;
+    let pattern = Pattern::build(&rt, rt.alloc(), &couplings)
+        .ok()
+        .expect(&rt, "a pattern");
+    let text = pattern_text(rt.alloc(), &pattern)?;
+    let pairs: &[u8] = b"%%MatrixMarket matrix coordinate pattern general
+4 4 16
+1 1
+1 2
+1 3
+1 4
+2 1
+2 2
+2 3
+2 4
+3 1
+3 2
+3 3
+3 4
+4 1
+4 2
+4 3
+4 4
+";
+    assert_eq!(rt; text.as_slice(), pairs);
+    Ok(())
+}

@@ -1,6 +1,5 @@
 ghost use Rattle.std.specs.Prelude.{◌≡◌, ◌≤◌, length, Ok, IfOk, IfErr, OnOk};
 ghost use Rattle.std.specs.List.{slice_get};
-ghost use Rattle.fem_text.specs.Lines.{words_of};
 ghost use Rattle.fem_text.specs.WordLines.{behind};
 ghost use Rattle.fem_text.specs.Reading.{outcome, IsFault, ReadsAll, FailsFirst};
 ghost use Rattle.matrix_market.specs.Lines as expected;
@@ -12,7 +11,7 @@ use crate::size::read_vector_size;
 use crate::triples::Values;
 use crate::words::value_at;
 use crate::{MarketFault, MarketKind};
-use fem_text::{TextLine, WordLines, at_line, exactly};
+use fem_text::{LineWords, WordLines, at_line, exactly};
 use std::alloc::Global;
 
 /// The right side of a text in the array format of whole numbers: the words
@@ -54,13 +53,13 @@ fn read_value_line(lines: &mut WordLines) -> Result<i128, MarketFault>
     ensures err { IfErr result (λ fault. IsFault MarketKind.TooFew expected.vector_entry lines.old 0 fault.kind fault.line) }
 {
     let line = lines.expect(MarketKind::TooFew)?;
-    at_line(vector_entry(&line), &line)
+    at_line(vector_entry(&LineWords::of(&line)), &line)
 }
 
 #[tactic(auto, unfolding(crate::specs::Lines::vector_entry))]
-fn vector_entry(line: &TextLine) -> Result<i128, MarketKind>
-    ensures { result ≡ expected.vector_entry (words_of line.now.bytes.now) }
+fn vector_entry(words: &LineWords) -> Result<i128, MarketKind>
+    ensures { result ≡ expected.vector_entry words.now }
 {
-    exactly(1, MarketKind::Entry, line)?;
-    value_at(line, 0)
+    exactly(1, MarketKind::Entry, words)?;
+    value_at(words, 0)
 }

@@ -1,22 +1,21 @@
 ghost use Rattle.std.specs.Prelude.{◌≡◌, ◌<◌, Ok, IfOk, IfErr, OnOk};
-ghost use Rattle.fem_text.specs.Lines.{words_of};
 ghost use Rattle.matrix_market.specs.Lines as expected;
 
 use crate::MarketKind;
 use crate::values::read_value;
-use fem_text::{TextLine, id_at};
+use fem_text::{LineWords, id_at};
 
 /// Whether this very word stands at a place.
 #[tactic(auto, unfolding(crate::specs::Lines::this_word))]
 pub(crate) fn this_word(
     kind: MarketKind,
     wanted: &[u8],
-    line: &TextLine,
+    words: &LineWords,
     place: u32,
 ) -> Result<(), MarketKind>
-    ensures { result ≡ expected.this_word kind wanted.now (words_of line.now.bytes.now) place }
+    ensures { result ≡ expected.this_word kind wanted.now words.now place }
 {
-    match line.word(place) {
+    match words.word(place) {
         Some(word) if word == wanted => Ok(()),
         _ => Err(kind),
     }
@@ -24,10 +23,10 @@ pub(crate) fn this_word(
 
 /// The index that stands at a place, from 0; in the text it counts from 1.
 #[tactic(auto, unfolding(crate::specs::Lines::index_at))]
-pub(crate) fn index_at(size: u32, line: &TextLine, place: u32) -> Result<u32, MarketKind>
-    ensures { result ≡ expected.index_at size (words_of line.now.bytes.now) place }
+pub(crate) fn index_at(size: u32, words: &LineWords, place: u32) -> Result<u32, MarketKind>
+    ensures { result ≡ expected.index_at size words.now place }
 {
-    let index = id_at(MarketKind::Entry, line, place)?;
+    let index = id_at(MarketKind::Entry, words, place)?;
     if 0 < index && index <= size {
         Ok(index - 1)
     } else {
@@ -37,10 +36,10 @@ pub(crate) fn index_at(size: u32, line: &TextLine, place: u32) -> Result<u32, Ma
 
 /// The value that stands at a place.
 #[tactic(auto, unfolding(crate::specs::Lines::value_at))]
-pub(crate) fn value_at(line: &TextLine, place: u32) -> Result<i128, MarketKind>
-    ensures { result ≡ expected.value_at (words_of line.now.bytes.now) place }
+pub(crate) fn value_at(words: &LineWords, place: u32) -> Result<i128, MarketKind>
+    ensures { result ≡ expected.value_at words.now place }
 {
-    let Some(word) = line.word(place) else {
+    let Some(word) = words.word(place) else {
         return Err(MarketKind::Entry);
     };
     read_value(word).ok_or(MarketKind::Entry)

@@ -1,12 +1,11 @@
 ghost use Rattle.std.specs.Prelude.{◌≡◌, ◌<◌, ◌==◌, length};
-ghost use Rattle.fem_text.specs.Lines.{words_of};
 ghost use Rattle.problem_read.specs.Shapes.{keyword_of, is_equation, has_shape, keyword_at};
 ghost use Rattle.problem_read.specs.Sums.{is_sum};
 
 use crate::ProblemKind;
 use crate::ties::{is_constant, is_term};
 use crate::words::Words;
-use fem_text::TextLine;
+use fem_text::LineWords;
 
 /// The first word of a line, which says what the line sets.
 #[derive(Clone, Copy)]
@@ -22,14 +21,14 @@ pub(crate) enum Keyword {
 
 /// The first word of a line that has the shape of such a line.
 #[tactic(auto, unfolding(crate::specs::Shapes::keyword_at))]
-pub(crate) fn keyword_at(line: &TextLine) -> Result<Keyword, ProblemKind>
-    ensures { result ≡ keyword_at (words_of line.now.bytes.now) }
+pub(crate) fn keyword_at(words: &LineWords) -> Result<Keyword, ProblemKind>
+    ensures { result ≡ keyword_at words.now }
 {
-    let Some(word) = line.word(0) else {
+    let Some(word) = words.word(0) else {
         return Err(ProblemKind::Word);
     };
     let keyword = keyword_of(word).ok_or(ProblemKind::Word)?;
-    if has_shape(keyword, line) {
+    if has_shape(keyword, words) {
         Ok(keyword)
     } else {
         Err(ProblemKind::Word)
@@ -64,30 +63,30 @@ fn keyword_of(word: &[u8]) -> Option<Keyword>
     None
 }
 
-fn has_shape(keyword: Keyword, line: &TextLine) -> bool
-    ensures { result ≡ has_shape keyword (words_of line.now.bytes.now) }
+fn has_shape(keyword: Keyword, words: &LineWords) -> bool
+    ensures { result ≡ has_shape keyword words.now }
 {
     match keyword {
-        Keyword::Diffusion | Keyword::Source | Keyword::Dirichlet => has_words(line, 3),
-        Keyword::Robin => has_words(line, 4),
-        Keyword::Penalty => has_words(line, 2),
-        Keyword::Refine => line.word(1).is_some(),
-        Keyword::Constraint => is_equation(line),
+        Keyword::Diffusion | Keyword::Source | Keyword::Dirichlet => has_words(words, 3),
+        Keyword::Robin => has_words(words, 4),
+        Keyword::Penalty => has_words(words, 2),
+        Keyword::Refine => words.word(1).is_some(),
+        Keyword::Constraint => is_equation(words),
     }
 }
 
-fn has_words(line: &TextLine, count: u32) -> bool
+fn has_words(words: &LineWords, count: u32) -> bool
     requires { 0 < count }
-    ensures { result ≡ (length (words_of line.now.bytes.now) == count) }
+    ensures { result ≡ (length words.now == count) }
 {
-    line.word(count - 1).is_some() && line.word(count).is_none()
+    words.word(count - 1).is_some() && words.word(count).is_none()
 }
 
-fn is_equation(line: &TextLine) -> bool
-    ensures { result ≡ is_equation (words_of line.now.bytes.now) }
+fn is_equation(words: &LineWords) -> bool
+    ensures { result ≡ is_equation words.now }
 {
-    match line.word(2) {
-        Some(word) if word == b"=".as_slice() => is_sum(Words::behind(line, 3)),
+    match words.word(2) {
+        Some(word) if word == b"=".as_slice() => is_sum(Words::behind(words, 3)),
         _ => false,
     }
 }

@@ -19,7 +19,7 @@ use crate::ties::{TieTerm, Ties};
 use crate::words::Words;
 use crate::{ProblemFault, ProblemKind};
 use fem_fixed::{NoMemory, read_id};
-use fem_text::{TextLine, at_line, id_at, number_at};
+use fem_text::{LineWords, TextLine, at_line, id_at, number_at};
 use indexmap::IndexMap;
 use std::alloc::Global;
 use std::marker::Model;
@@ -137,8 +137,9 @@ impl Tables {
         ensures ok { OnOk result (AddsEntry self.old (words_of line.now.bytes.now) self.new) }
         ensures err { IfErr result (λ fault. NoMemoryOr fault (IsLineFault (entry_behind self.old (words_of line.now.bytes.now)) line.now.number fault)) }
     {
-        let keyword = at_line(keyword_at(line), line)?;
-        self.add_as(alloc, keyword, line)
+        let words = LineWords::of(line);
+        let keyword = at_line(keyword_at(&words), line)?;
+        self.add_as(alloc, keyword, line, &words)
     }
 
     // Adds what a line with this first word says.
@@ -147,28 +148,33 @@ impl Tables {
         alloc: Global,
         keyword: Keyword,
         line: &TextLine,
+        words: &LineWords,
     ) -> Result<(), ProblemFault>
-        requires { keyword_at (words_of line.now.bytes.now) ≡ Ok keyword }
-        ensures ok { OnOk result (AddsEntry self.old (words_of line.now.bytes.now) self.new) }
-        ensures err { IfErr result (λ fault. NoMemoryOr fault (IsLineFault (entry_behind self.old (words_of line.now.bytes.now)) line.now.number fault)) }
+        requires { keyword_at words.now ≡ Ok keyword }
+        ensures ok { OnOk result (AddsEntry self.old words.now self.new) }
+        ensures err { IfErr result (λ fault. NoMemoryOr fault (IsLineFault (entry_behind self.old words.now) line.now.number fault)) }
     {
         match keyword {
-            Keyword::Diffusion => add_setting(&mut self.diffusion, line),
-            Keyword::Source => add_setting(&mut self.source, line),
-            Keyword::Robin => add_two_settings(&mut self.robin, line),
-            Keyword::Dirichlet => add_setting(&mut self.dirichlet, line),
-            Keyword::Penalty => add_penalty(&mut self.penalty, line),
-            Keyword::Refine => add_step(alloc, &mut self.steps, line),
-            Keyword::Constraint => self.ties.add(line),
+            Keyword::Diffusion => add_setting(&mut self.diffusion, line, words),
+            Keyword::Source => add_setting(&mut self.source, line, words),
+            Keyword::Robin => add_two_settings(&mut self.robin, line, words),
+            Keyword::Dirichlet => add_setting(&mut self.dirichlet, line, words),
+            Keyword::Penalty => add_penalty(&mut self.penalty, line, words),
+            Keyword::Refine => add_step(alloc, &mut self.steps, line, words),
+            Keyword::Constraint => self.ties.add(line, words),
         }
     }
 }
 
-fn add_setting(map: &mut IndexMap<u32, i64>, line: &TextLine) -> Result<(), ProblemFault>
-    ensures ok { OnOk result (AddsSetting (setting_of (words_of line.now.bytes.now)) map.old.entries map.new.entries) }
-    ensures err { IfErr result (λ fault. NoMemoryOr fault (IsLineFault (setting_line (setting_of (words_of line.now.bytes.now)) map.old.entries) line.now.number fault)) }
+fn add_setting(
+    map: &mut IndexMap<u32, i64>,
+    line: &TextLine,
+    words: &LineWords,
+) -> Result<(), ProblemFault>
+    ensures ok { OnOk result (AddsSetting (setting_of words.now) map.old.entries map.new.entries) }
+    ensures err { IfErr result (λ fault. NoMemoryOr fault (IsLineFault (setting_line (setting_of words.now) map.old.entries) line.now.number fault)) }
 {
-    let (id, value) = at_line(setting_of(line), line)?;
+    let (id, value) = at_line(setting_of(words), line)?;
     if map.get(&id).is_some() {
         return at_line(Err(ProblemKind::Repeated), line);
     }
@@ -179,11 +185,12 @@ fn add_setting(map: &mut IndexMap<u32, i64>, line: &TextLine) -> Result<(), Prob
 fn add_two_settings(
     map: &mut IndexMap<u32, (i64, i64)>,
     line: &TextLine,
+    words: &LineWords,
 ) -> Result<(), ProblemFault>
-    ensures ok { OnOk result (AddsSetting (two_settings_of (words_of line.now.bytes.now)) map.old.entries map.new.entries) }
-    ensures err { IfErr result (λ fault. NoMemoryOr fault (IsLineFault (setting_line (two_settings_of (words_of line.now.bytes.now)) map.old.entries) line.now.number fault)) }
+    ensures ok { OnOk result (AddsSetting (two_settings_of words.now) map.old.entries map.new.entries) }
+    ensures err { IfErr result (λ fault. NoMemoryOr fault (IsLineFault (setting_line (two_settings_of words.now) map.old.entries) line.now.number fault)) }
 {
-    let (boundary, values) = at_line(two_settings_of(line), line)?;
+    let (boundary, values) = at_line(two_settings_of(words), line)?;
     if map.get(&boundary).is_some() {
         return at_line(Err(ProblemKind::Repeated), line);
     }
@@ -201,29 +208,33 @@ fn insert_new<V: Copy + Drop>(map: &mut IndexMap<u32, V>, id: u32, value: V) -> 
 }
 
 #[tactic(auto, unfolding(crate::specs::EntryLine::setting_of))]
-fn setting_of(line: &TextLine) -> Result<(u32, i64), ProblemKind>
-    ensures { result ≡ setting_of (words_of line.now.bytes.now) }
+fn setting_of(words: &LineWords) -> Result<(u32, i64), ProblemKind>
+    ensures { result ≡ setting_of words.now }
 {
-    let id = id_at(ProblemKind::Number, line, 1)?;
-    let value = number_at(ProblemKind::Number, VALUE_LIMIT, line, 2)?;
+    let id = id_at(ProblemKind::Number, words, 1)?;
+    let value = number_at(ProblemKind::Number, VALUE_LIMIT, words, 2)?;
     Ok((id, value))
 }
 
 #[tactic(auto, unfolding(crate::specs::EntryLine::two_settings_of))]
-fn two_settings_of(line: &TextLine) -> Result<(u32, (i64, i64)), ProblemKind>
-    ensures { result ≡ two_settings_of (words_of line.now.bytes.now) }
+fn two_settings_of(words: &LineWords) -> Result<(u32, (i64, i64)), ProblemKind>
+    ensures { result ≡ two_settings_of words.now }
 {
-    let id = id_at(ProblemKind::Number, line, 1)?;
-    let first = number_at(ProblemKind::Number, VALUE_LIMIT, line, 2)?;
-    let second = number_at(ProblemKind::Number, VALUE_LIMIT, line, 3)?;
+    let id = id_at(ProblemKind::Number, words, 1)?;
+    let first = number_at(ProblemKind::Number, VALUE_LIMIT, words, 2)?;
+    let second = number_at(ProblemKind::Number, VALUE_LIMIT, words, 3)?;
     Ok((id, (first, second)))
 }
 
-fn add_penalty(penalty: &mut Option<i64>, line: &TextLine) -> Result<(), ProblemFault>
-    ensures ok { OnOk result (AddsPenalty (words_of line.now.bytes.now) penalty.old penalty.new) }
-    ensures err { IfErr result (λ fault. NoMemoryOr fault (IsLineFault (penalty_line (words_of line.now.bytes.now) penalty.old) line.now.number fault)) }
+fn add_penalty(
+    penalty: &mut Option<i64>,
+    line: &TextLine,
+    words: &LineWords,
+) -> Result<(), ProblemFault>
+    ensures ok { OnOk result (AddsPenalty words.now penalty.old penalty.new) }
+    ensures err { IfErr result (λ fault. NoMemoryOr fault (IsLineFault (penalty_line words.now penalty.old) line.now.number fault)) }
 {
-    let value = at_line(number_at(ProblemKind::Number, VALUE_LIMIT, line, 1), line)?;
+    let value = at_line(number_at(ProblemKind::Number, VALUE_LIMIT, words, 1), line)?;
     if penalty.is_some() {
         return at_line(Err(ProblemKind::Repeated), line);
     }
@@ -231,12 +242,17 @@ fn add_penalty(penalty: &mut Option<i64>, line: &TextLine) -> Result<(), Problem
     Ok(())
 }
 
-fn add_step(alloc: Global, steps: &mut Vec<Vec<u32>>, line: &TextLine) -> Result<(), ProblemFault>
-    ensures ok { OnOk result (AddsStep (words_of line.now.bytes.now) (steps_in steps.old.items) (steps_in steps.new.items)) }
-    ensures err { IfErr result (λ fault. NoMemoryOr fault (IsLineFault (step_line (words_of line.now.bytes.now) (steps_in steps.old.items)) line.now.number fault)) }
+fn add_step(
+    alloc: Global,
+    steps: &mut Vec<Vec<u32>>,
+    line: &TextLine,
+    words: &LineWords,
+) -> Result<(), ProblemFault>
+    ensures ok { OnOk result (AddsStep words.now (steps_in steps.old.items) (steps_in steps.new.items)) }
+    ensures err { IfErr result (λ fault. NoMemoryOr fault (IsLineFault (step_line words.now (steps_in steps.old.items)) line.now.number fault)) }
     ensures few { length steps.old.items ≤ 32 → length steps.new.items ≤ 32 }
 {
-    let cells = read_cells(alloc, line)?;
+    let cells = read_cells(alloc, line, words)?;
     if steps.len() >= STEP_LIMIT {
         return at_line(Err(ProblemKind::Limit), line);
     }
@@ -253,13 +269,13 @@ fn keep_step(steps: &mut Vec<Vec<u32>>, cells: Vec<u32>) -> Result<(), NoMemory>
 }
 
 // The cell numbers behind the first word.
-fn read_cells(alloc: Global, line: &TextLine) -> Result<Vec<u32>, ProblemFault>
-    ensures ok { IfOk result (λ cells. all_of id_of (drop 1 (words_of line.now.bytes.now)) ≡ Some cells.items) }
-    ensures err { IfErr result (λ fault. NoMemoryOr fault (IsLineFault (or_fault ProblemKind.Number (all_of id_of (drop 1 (words_of line.now.bytes.now)))) line.now.number fault)) }
+fn read_cells(alloc: Global, line: &TextLine, words: &LineWords) -> Result<Vec<u32>, ProblemFault>
+    ensures ok { IfOk result (λ cells. all_of id_of (drop 1 words.now) ≡ Some cells.items) }
+    ensures err { IfErr result (λ fault. NoMemoryOr fault (IsLineFault (or_fault ProblemKind.Number (all_of id_of (drop 1 words.now))) line.now.number fault)) }
 {
     let mut cells = Vec::new(alloc);
-    let mut words = Words::behind(line, 1);
-    while let Some(word) = words.next_word() {
+    let mut left = Words::behind(words, 1);
+    while let Some(word) = left.next_word() {
         let Some(cell) = read_id(word) else {
             return at_line(Err(ProblemKind::Number), line);
         };

@@ -1,7 +1,6 @@
 ghost use Rattle.std.specs.Prelude.{◌≡◌, ◌<◌, ◌≤◌, ◌^◌, ◌&&◌, ◌∷◌, [], length, nat_lt, nat_le, drop, position, pos, unwrap_or, ◌++◌, OnOk, OnErr, IfOk, IfErr};
 ghost use Rattle.std.specs.List.{before_first, after_first};
 ghost use Rattle.fem_fixed.specs.Ticks.{number_of};
-ghost use Rattle.fem_text.specs.Lines.{words_of};
 ghost use Rattle.problem_read.specs.Sums.{is_star, stars, is_plus, is_term, is_constant, within, term_of, constant_of, sum_of};
 ghost use Rattle.fem_text.specs.Words.{or_fault};
 ghost use Rattle.problem_read.specs.Ties.{IsTie, AddsTie, AddsPart, HasSum, StartsWith, tie_line, tie_line_of};
@@ -13,7 +12,7 @@ use crate::lists::keep;
 use crate::words::Words;
 use crate::{ProblemFault, ProblemKind};
 use fem_fixed::{NoMemory, read_id, read_number};
-use fem_text::{TextLine, at_line, id_at};
+use fem_text::{LineWords, TextLine, at_line, id_at};
 use std::alloc::Global;
 use std::marker::Model;
 
@@ -85,13 +84,13 @@ impl Ties {
 
     /// Adds the constraint of a line.
     #[tactic(auto, unfolding(crate::specs::Ties::tie_line, crate::specs::EntryLine::tie_at))]
-    pub(crate) fn add(&mut self, line: &TextLine) -> Result<(), ProblemFault>
-        ensures ok { OnOk result (AddsTie self.old (words_of line.now.bytes.now) self.new) }
-        ensures err { IfErr result (λ fault. NoMemoryOr fault (IsLineFault (tie_line self.old (words_of line.now.bytes.now)) line.now.number fault)) }
+    pub(crate) fn add(&mut self, line: &TextLine, words: &LineWords) -> Result<(), ProblemFault>
+        ensures ok { OnOk result (AddsTie self.old words.now self.new) }
+        ensures err { IfErr result (λ fault. NoMemoryOr fault (IsLineFault (tie_line self.old words.now) line.now.number fault)) }
     {
-        let node = at_line(id_at(ProblemKind::Number, line, 1), line)?;
+        let node = at_line(id_at(ProblemKind::Number, words, 1), line)?;
         let start = self.terms.len();
-        let constant = read_sum(&mut self.terms, line)?;
+        let constant = read_sum(&mut self.terms, line, words)?;
         let count = self.terms.len() - start;
         if !has_room(self.lines.len(), count) {
             return at_line(Err(ProblemKind::Limit), line);
@@ -123,14 +122,18 @@ fn push_line(
 }
 
 // Adds the terms on the right side of a constraint, and gives its constant, if any.
-fn read_sum(terms: &mut Vec<TieTerm>, line: &TextLine) -> Result<Option<i64>, ProblemFault>
-    ensures ok { IfOk result (λ constant. HasSum (drop 3 (words_of line.now.bytes.now)) terms.old.items terms.new.items (unwrap_or constant (pos 0))) }
-    ensures err { IfErr result (λ fault. NoMemoryOr fault (IsLineFault (or_fault ProblemKind.Number (sum_of (drop 3 (words_of line.now.bytes.now)))) line.now.number fault)) }
+fn read_sum(
+    terms: &mut Vec<TieTerm>,
+    line: &TextLine,
+    words: &LineWords,
+) -> Result<Option<i64>, ProblemFault>
+    ensures ok { IfOk result (λ constant. HasSum (drop 3 words.now) terms.old.items terms.new.items (unwrap_or constant (pos 0))) }
+    ensures err { IfErr result (λ fault. NoMemoryOr fault (IsLineFault (or_fault ProblemKind.Number (sum_of (drop 3 words.now))) line.now.number fault)) }
     ensures grows { StartsWith terms.old.items terms.new.items }
 {
     let mut constant = None;
-    let mut words = Words::behind(line, 3);
-    while let Some(word) = words.next_word() {
+    let mut left = Words::behind(words, 3);
+    while let Some(word) = left.next_word() {
         constant = add_part(terms, constant, word, line)?;
     }
     Ok(constant)

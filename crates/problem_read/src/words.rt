@@ -2,7 +2,7 @@ ghost use Rattle.std.specs.Prelude.{◌≡◌, ◌<◌, false, length, drop, sli
 ghost use Rattle.std.specs.List.{before_first, after_first};
 ghost use Rattle.fem_text.specs.Lines.{is_blank, words_of};
 
-use fem_text::TextLine;
+use fem_text::{LineWords, TextLine};
 use std::marker::Model;
 
 /// The words of a line, one after another.
@@ -28,14 +28,14 @@ impl<'a> Words<'a> {
     }
 
     /// Without the first `count` words.
-    pub(crate) fn behind(line: &TextLine<'a>, count: u32) -> Self
-        ensures { result ≡ drop count (words_of line.now.bytes.now) }
+    pub(crate) fn behind(words: &LineWords<'a>, count: u32) -> Self
+        ensures { result ≡ drop count words.now }
     {
-        let mut words = Words::new(line);
+        let mut left = Words::new(&words.line());
         for _ in 0..count {
-            words.next_word();
+            left.next_word();
         }
-        words
+        left
     }
 
     /// The first of the words that are left, or nothing at the end of the line.

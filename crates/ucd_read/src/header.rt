@@ -1,5 +1,4 @@
 ghost use Rattle.std.specs.Prelude.{◌≡◌, ◌≤◌, ◌^◌, IfOk, IfErr, OnOk};
-ghost use Rattle.fem_text.specs.Lines.{words_of};
 ghost use Rattle.ucd_read.specs.Header.{header_line};
 ghost use Rattle.fem_text.specs.WordLines.{behind};
 ghost use Rattle.ucd_read.specs.Comments.{from_header};
@@ -7,7 +6,7 @@ ghost use Rattle.fem_text.specs.Reading.{IsFault};
 ghost use Rattle.ucd_read.specs.Ucd.{HasHeader};
 
 use crate::{UcdFault, UcdKind};
-use fem_text::{TextLine, WordLines, at_line, exactly, id_at};
+use fem_text::{LineWords, WordLines, at_line, exactly, id_at};
 
 const NODE_LIMIT: u32 = 1 << 20;
 
@@ -29,21 +28,22 @@ pub(crate) fn read_header(lines: &mut WordLines) -> Result<Header, UcdFault>
     ensures err { IfErr result (λ fault. IsFault UcdKind.TooFew header_line (from_header lines.old) 0 fault.kind fault.line) }
 {
     let line = lines.expect_behind_comments(b'#', UcdKind::TooFew)?;
-    at_line(header_line(&line), &line)
+    let words = LineWords::of(&line);
+    at_line(header_line(&words), &line)
 }
 
 #[tactic(auto, unfolding(crate::specs::Header::header_line))]
-pub(crate) fn header_line(line: &TextLine) -> Result<Header, UcdKind>
-    ensures value { result ≡ header_line (words_of line.now.bytes.now) }
+pub(crate) fn header_line(words: &LineWords) -> Result<Header, UcdKind>
+    ensures value { result ≡ header_line words.now }
     ensures nodes { IfOk result (λ header. header.nodes ≤ 2 ^ 20) }
     ensures cells { IfOk result (λ header. header.cells ≤ 2 ^ 21) }
 {
-    exactly(5, UcdKind::Header, line)?;
-    let nodes = id_at(UcdKind::Header, line, 0)?;
-    let cells = id_at(UcdKind::Header, line, 1)?;
-    id_at(UcdKind::Header, line, 2)?;
-    id_at(UcdKind::Header, line, 3)?;
-    id_at(UcdKind::Header, line, 4)?;
+    exactly(5, UcdKind::Header, words)?;
+    let nodes = id_at(UcdKind::Header, words, 0)?;
+    let cells = id_at(UcdKind::Header, words, 1)?;
+    id_at(UcdKind::Header, words, 2)?;
+    id_at(UcdKind::Header, words, 3)?;
+    id_at(UcdKind::Header, words, 4)?;
     if nodes <= NODE_LIMIT && cells <= CELL_LIMIT {
         Ok(Header { nodes, cells })
     } else {

@@ -1,6 +1,5 @@
-use Rattle.std.proofs.Common.{◌≡◌, ◌∙◌, ap, refl, subst}
+use Rattle.std.proofs.Common.{◌∙◌, ap, refl, subst}
 use Rattle.std.specs.Prelude.{Ok, IfErr}
-use Rattle.fem_text.specs.Lines.{words_of}
 use Rattle.problem_read.specs.Entries.{ProblemParts, diffusion, source, robin, dirichlet, penalty, refine, constraint}
 use Rattle.problem_read.specs.EntryLine.{setting_of, two_settings_of, entry_behind}
 use Rattle.problem_read.specs.Problem.{NoMemoryOr}
@@ -13,98 +12,98 @@ use Rattle.problem_read.proofs.tables.Tables.add_as.Goals as goal
 
 pub returns-in-Diffusion-clause-ok : goal.returns-in-Diffusion-clause-ok
 returns-in-Diffusion-clause-ok c =
-    let P : ProblemParts → Type 0 = λ before. AddsEntry before (words_of c.args.line.now.bytes.now) (the_view (record c.self.inside { diffusion = c.add_setting.new.map })) in
+    let P : ProblemParts → Type 0 = λ before. AddsEntry before c.args.words.now (the_view (record c.self.inside { diffusion = c.add_setting.new.map })) in
     let h = c.requires ∙ ap Ok c.in-Diffusion.is in
-    on_ok c.add_setting.result (λ adds. subst P c.self.view_is (adds_diffusion (the_view c.self.inside) (the_view (record c.self.inside { diffusion = c.add_setting.new.map })) (words_of c.args.line.now.bytes.now) c.add_setting.new.map.entries h refl adds)) c.add_setting.ensures.ok
+    on_ok c.add_setting.result (λ adds. subst P c.self.view_is (adds_diffusion (the_view c.self.inside) (the_view (record c.self.inside { diffusion = c.add_setting.new.map })) c.args.words.now c.add_setting.new.map.entries h refl adds)) c.add_setting.ensures.ok
 
 pub returns-in-Diffusion-clause-err : goal.returns-in-Diffusion-clause-err
 returns-in-Diffusion-clause-err c =
-    let P : ProblemParts → Type 0 = λ before. IfErr c.add_setting.result (λ fault. NoMemoryOr fault (IsLineFault (entry_behind before (words_of c.args.line.now.bytes.now)) c.args.line.now.number fault)) in
+    let P : ProblemParts → Type 0 = λ before. IfErr c.add_setting.result (λ fault. NoMemoryOr fault (IsLineFault (entry_behind before c.args.words.now) c.args.line.now.number fault)) in
     let h = c.requires ∙ ap Ok c.in-Diffusion.is in
     subst P c.self.view_is
-    (errs_as (setting_line (setting_of (words_of c.args.line.now.bytes.now)) (the_view c.self.inside).diffusion) diffusion (entry_behind (the_view c.self.inside) (words_of c.args.line.now.bytes.now)) c.args.line.now.number c.add_setting.result
-    (of_diffusion (the_view c.self.inside) (words_of c.args.line.now.bytes.now) h) c.add_setting.ensures.err)
+    (errs_as (setting_line (setting_of c.args.words.now) (the_view c.self.inside).diffusion) diffusion (entry_behind (the_view c.self.inside) c.args.words.now) c.args.line.now.number c.add_setting.result
+    (of_diffusion (the_view c.self.inside) c.args.words.now h) c.add_setting.ensures.err)
 
 pub returns-in-Source-clause-ok : goal.returns-in-Source-clause-ok
 returns-in-Source-clause-ok c =
-    let P : ProblemParts → Type 0 = λ before. AddsEntry before (words_of c.args.line.now.bytes.now) (the_view (record c.self.inside { source = c.add_setting-in-Source.new.map })) in
+    let P : ProblemParts → Type 0 = λ before. AddsEntry before c.args.words.now (the_view (record c.self.inside { source = c.add_setting-in-Source.new.map })) in
     let h = c.requires ∙ ap Ok c.in-Source.is in
-    on_ok c.add_setting-in-Source.result (λ adds. subst P c.self.view_is (adds_source (the_view c.self.inside) (the_view (record c.self.inside { source = c.add_setting-in-Source.new.map })) (words_of c.args.line.now.bytes.now) c.add_setting-in-Source.new.map.entries h refl adds)) c.add_setting-in-Source.ensures.ok
+    on_ok c.add_setting-in-Source.result (λ adds. subst P c.self.view_is (adds_source (the_view c.self.inside) (the_view (record c.self.inside { source = c.add_setting-in-Source.new.map })) c.args.words.now c.add_setting-in-Source.new.map.entries h refl adds)) c.add_setting-in-Source.ensures.ok
 
 pub returns-in-Source-clause-err : goal.returns-in-Source-clause-err
 returns-in-Source-clause-err c =
-    let P : ProblemParts → Type 0 = λ before. IfErr c.add_setting-in-Source.result (λ fault. NoMemoryOr fault (IsLineFault (entry_behind before (words_of c.args.line.now.bytes.now)) c.args.line.now.number fault)) in
+    let P : ProblemParts → Type 0 = λ before. IfErr c.add_setting-in-Source.result (λ fault. NoMemoryOr fault (IsLineFault (entry_behind before c.args.words.now) c.args.line.now.number fault)) in
     let h = c.requires ∙ ap Ok c.in-Source.is in
     subst P c.self.view_is
-    (errs_as (setting_line (setting_of (words_of c.args.line.now.bytes.now)) (the_view c.self.inside).source) source (entry_behind (the_view c.self.inside) (words_of c.args.line.now.bytes.now)) c.args.line.now.number c.add_setting-in-Source.result
-    (of_source (the_view c.self.inside) (words_of c.args.line.now.bytes.now) h) c.add_setting-in-Source.ensures.err)
+    (errs_as (setting_line (setting_of c.args.words.now) (the_view c.self.inside).source) source (entry_behind (the_view c.self.inside) c.args.words.now) c.args.line.now.number c.add_setting-in-Source.result
+    (of_source (the_view c.self.inside) c.args.words.now h) c.add_setting-in-Source.ensures.err)
 
 pub returns-in-Robin-clause-ok : goal.returns-in-Robin-clause-ok
 returns-in-Robin-clause-ok c =
-    let P : ProblemParts → Type 0 = λ before. AddsEntry before (words_of c.args.line.now.bytes.now) (the_view (record c.self.inside { robin = c.add_two_settings.new.map })) in
+    let P : ProblemParts → Type 0 = λ before. AddsEntry before c.args.words.now (the_view (record c.self.inside { robin = c.add_two_settings.new.map })) in
     let h = c.requires ∙ ap Ok c.in-Robin.is in
-    on_ok c.add_two_settings.result (λ adds. subst P c.self.view_is (adds_robin (the_view c.self.inside) (the_view (record c.self.inside { robin = c.add_two_settings.new.map })) (words_of c.args.line.now.bytes.now) c.add_two_settings.new.map.entries h refl adds)) c.add_two_settings.ensures.ok
+    on_ok c.add_two_settings.result (λ adds. subst P c.self.view_is (adds_robin (the_view c.self.inside) (the_view (record c.self.inside { robin = c.add_two_settings.new.map })) c.args.words.now c.add_two_settings.new.map.entries h refl adds)) c.add_two_settings.ensures.ok
 
 pub returns-in-Robin-clause-err : goal.returns-in-Robin-clause-err
 returns-in-Robin-clause-err c =
-    let P : ProblemParts → Type 0 = λ before. IfErr c.add_two_settings.result (λ fault. NoMemoryOr fault (IsLineFault (entry_behind before (words_of c.args.line.now.bytes.now)) c.args.line.now.number fault)) in
+    let P : ProblemParts → Type 0 = λ before. IfErr c.add_two_settings.result (λ fault. NoMemoryOr fault (IsLineFault (entry_behind before c.args.words.now) c.args.line.now.number fault)) in
     let h = c.requires ∙ ap Ok c.in-Robin.is in
     subst P c.self.view_is
-    (errs_as (setting_line (two_settings_of (words_of c.args.line.now.bytes.now)) (the_view c.self.inside).robin) robin (entry_behind (the_view c.self.inside) (words_of c.args.line.now.bytes.now)) c.args.line.now.number c.add_two_settings.result
-    (of_robin (the_view c.self.inside) (words_of c.args.line.now.bytes.now) h) c.add_two_settings.ensures.err)
+    (errs_as (setting_line (two_settings_of c.args.words.now) (the_view c.self.inside).robin) robin (entry_behind (the_view c.self.inside) c.args.words.now) c.args.line.now.number c.add_two_settings.result
+    (of_robin (the_view c.self.inside) c.args.words.now h) c.add_two_settings.ensures.err)
 
 pub returns-in-Dirichlet-clause-ok : goal.returns-in-Dirichlet-clause-ok
 returns-in-Dirichlet-clause-ok c =
-    let P : ProblemParts → Type 0 = λ before. AddsEntry before (words_of c.args.line.now.bytes.now) (the_view (record c.self.inside { dirichlet = c.add_setting-in-Dirichlet.new.map })) in
+    let P : ProblemParts → Type 0 = λ before. AddsEntry before c.args.words.now (the_view (record c.self.inside { dirichlet = c.add_setting-in-Dirichlet.new.map })) in
     let h = c.requires ∙ ap Ok c.in-Dirichlet.is in
-    on_ok c.add_setting-in-Dirichlet.result (λ adds. subst P c.self.view_is (adds_dirichlet (the_view c.self.inside) (the_view (record c.self.inside { dirichlet = c.add_setting-in-Dirichlet.new.map })) (words_of c.args.line.now.bytes.now) c.add_setting-in-Dirichlet.new.map.entries h refl adds)) c.add_setting-in-Dirichlet.ensures.ok
+    on_ok c.add_setting-in-Dirichlet.result (λ adds. subst P c.self.view_is (adds_dirichlet (the_view c.self.inside) (the_view (record c.self.inside { dirichlet = c.add_setting-in-Dirichlet.new.map })) c.args.words.now c.add_setting-in-Dirichlet.new.map.entries h refl adds)) c.add_setting-in-Dirichlet.ensures.ok
 
 pub returns-in-Dirichlet-clause-err : goal.returns-in-Dirichlet-clause-err
 returns-in-Dirichlet-clause-err c =
-    let P : ProblemParts → Type 0 = λ before. IfErr c.add_setting-in-Dirichlet.result (λ fault. NoMemoryOr fault (IsLineFault (entry_behind before (words_of c.args.line.now.bytes.now)) c.args.line.now.number fault)) in
+    let P : ProblemParts → Type 0 = λ before. IfErr c.add_setting-in-Dirichlet.result (λ fault. NoMemoryOr fault (IsLineFault (entry_behind before c.args.words.now) c.args.line.now.number fault)) in
     let h = c.requires ∙ ap Ok c.in-Dirichlet.is in
     subst P c.self.view_is
-    (errs_as (setting_line (setting_of (words_of c.args.line.now.bytes.now)) (the_view c.self.inside).dirichlet) dirichlet (entry_behind (the_view c.self.inside) (words_of c.args.line.now.bytes.now)) c.args.line.now.number c.add_setting-in-Dirichlet.result
-    (of_dirichlet (the_view c.self.inside) (words_of c.args.line.now.bytes.now) h) c.add_setting-in-Dirichlet.ensures.err)
+    (errs_as (setting_line (setting_of c.args.words.now) (the_view c.self.inside).dirichlet) dirichlet (entry_behind (the_view c.self.inside) c.args.words.now) c.args.line.now.number c.add_setting-in-Dirichlet.result
+    (of_dirichlet (the_view c.self.inside) c.args.words.now h) c.add_setting-in-Dirichlet.ensures.err)
 
 pub returns-in-Penalty-clause-ok : goal.returns-in-Penalty-clause-ok
 returns-in-Penalty-clause-ok c =
-    let P : ProblemParts → Type 0 = λ before. AddsEntry before (words_of c.args.line.now.bytes.now) (the_view (record c.self.inside { penalty = c.add_penalty.new.penalty })) in
+    let P : ProblemParts → Type 0 = λ before. AddsEntry before c.args.words.now (the_view (record c.self.inside { penalty = c.add_penalty.new.penalty })) in
     let h = c.requires ∙ ap Ok c.in-Penalty.is in
-    on_ok c.add_penalty.result (λ adds. subst P c.self.view_is (adds_penalty (the_view c.self.inside) (the_view (record c.self.inside { penalty = c.add_penalty.new.penalty })) (words_of c.args.line.now.bytes.now) c.add_penalty.new.penalty h refl adds)) c.add_penalty.ensures.ok
+    on_ok c.add_penalty.result (λ adds. subst P c.self.view_is (adds_penalty (the_view c.self.inside) (the_view (record c.self.inside { penalty = c.add_penalty.new.penalty })) c.args.words.now c.add_penalty.new.penalty h refl adds)) c.add_penalty.ensures.ok
 
 pub returns-in-Penalty-clause-err : goal.returns-in-Penalty-clause-err
 returns-in-Penalty-clause-err c =
-    let P : ProblemParts → Type 0 = λ before. IfErr c.add_penalty.result (λ fault. NoMemoryOr fault (IsLineFault (entry_behind before (words_of c.args.line.now.bytes.now)) c.args.line.now.number fault)) in
+    let P : ProblemParts → Type 0 = λ before. IfErr c.add_penalty.result (λ fault. NoMemoryOr fault (IsLineFault (entry_behind before c.args.words.now) c.args.line.now.number fault)) in
     let h = c.requires ∙ ap Ok c.in-Penalty.is in
     subst P c.self.view_is
-    (errs_as (penalty_line (words_of c.args.line.now.bytes.now) (the_view c.self.inside).penalty) penalty (entry_behind (the_view c.self.inside) (words_of c.args.line.now.bytes.now)) c.args.line.now.number c.add_penalty.result
-    (of_penalty (the_view c.self.inside) (words_of c.args.line.now.bytes.now) h) c.add_penalty.ensures.err)
+    (errs_as (penalty_line c.args.words.now (the_view c.self.inside).penalty) penalty (entry_behind (the_view c.self.inside) c.args.words.now) c.args.line.now.number c.add_penalty.result
+    (of_penalty (the_view c.self.inside) c.args.words.now h) c.add_penalty.ensures.err)
 
 pub returns-in-Refine-clause-ok : goal.returns-in-Refine-clause-ok
 returns-in-Refine-clause-ok c =
-    let P : ProblemParts → Type 0 = λ before. AddsEntry before (words_of c.args.line.now.bytes.now) (the_view (record c.self.inside { steps = c.add_step.new.steps })) in
+    let P : ProblemParts → Type 0 = λ before. AddsEntry before c.args.words.now (the_view (record c.self.inside { steps = c.add_step.new.steps })) in
     let h = c.requires ∙ ap Ok c.in-Refine.is in
-    on_ok c.add_step.result (λ adds. subst P c.self.view_is (adds_step (the_view c.self.inside) (the_view (record c.self.inside { steps = c.add_step.new.steps })) (words_of c.args.line.now.bytes.now) (steps_in c.add_step.new.steps.items) h refl adds)) c.add_step.ensures.ok
+    on_ok c.add_step.result (λ adds. subst P c.self.view_is (adds_step (the_view c.self.inside) (the_view (record c.self.inside { steps = c.add_step.new.steps })) c.args.words.now (steps_in c.add_step.new.steps.items) h refl adds)) c.add_step.ensures.ok
 
 pub returns-in-Refine-clause-err : goal.returns-in-Refine-clause-err
 returns-in-Refine-clause-err c =
-    let P : ProblemParts → Type 0 = λ before. IfErr c.add_step.result (λ fault. NoMemoryOr fault (IsLineFault (entry_behind before (words_of c.args.line.now.bytes.now)) c.args.line.now.number fault)) in
+    let P : ProblemParts → Type 0 = λ before. IfErr c.add_step.result (λ fault. NoMemoryOr fault (IsLineFault (entry_behind before c.args.words.now) c.args.line.now.number fault)) in
     let h = c.requires ∙ ap Ok c.in-Refine.is in
     subst P c.self.view_is
-    (errs_as (step_line (words_of c.args.line.now.bytes.now) (the_view c.self.inside).steps) refine (entry_behind (the_view c.self.inside) (words_of c.args.line.now.bytes.now)) c.args.line.now.number c.add_step.result
-    (of_step (the_view c.self.inside) (words_of c.args.line.now.bytes.now) h) c.add_step.ensures.err)
+    (errs_as (step_line c.args.words.now (the_view c.self.inside).steps) refine (entry_behind (the_view c.self.inside) c.args.words.now) c.args.line.now.number c.add_step.result
+    (of_step (the_view c.self.inside) c.args.words.now h) c.add_step.ensures.err)
 
 pub returns-in-Constraint-clause-ok : goal.returns-in-Constraint-clause-ok
 returns-in-Constraint-clause-ok c =
-    let P : ProblemParts → Type 0 = λ before. AddsEntry before (words_of c.args.line.now.bytes.now) (the_view (record c.self.inside { ties = c.add.new.self })) in
+    let P : ProblemParts → Type 0 = λ before. AddsEntry before c.args.words.now (the_view (record c.self.inside { ties = c.add.new.self })) in
     let h = c.requires ∙ ap Ok c.in-Constraint.is in
-    on_ok c.add.result (λ adds. subst P c.self.view_is (adds_tie (the_view c.self.inside) (the_view (record c.self.inside { ties = c.add.new.self })) (words_of c.args.line.now.bytes.now) c.add.new.self h refl adds)) c.add.ensures.ok
+    on_ok c.add.result (λ adds. subst P c.self.view_is (adds_tie (the_view c.self.inside) (the_view (record c.self.inside { ties = c.add.new.self })) c.args.words.now c.add.new.self h refl adds)) c.add.ensures.ok
 
 pub returns-in-Constraint-clause-err : goal.returns-in-Constraint-clause-err
 returns-in-Constraint-clause-err c =
-    let P : ProblemParts → Type 0 = λ before. IfErr c.add.result (λ fault. NoMemoryOr fault (IsLineFault (entry_behind before (words_of c.args.line.now.bytes.now)) c.args.line.now.number fault)) in
+    let P : ProblemParts → Type 0 = λ before. IfErr c.add.result (λ fault. NoMemoryOr fault (IsLineFault (entry_behind before c.args.words.now) c.args.line.now.number fault)) in
     let h = c.requires ∙ ap Ok c.in-Constraint.is in
     subst P c.self.view_is
-    (errs_as (tie_line (the_view c.self.inside).ties (words_of c.args.line.now.bytes.now)) constraint (entry_behind (the_view c.self.inside) (words_of c.args.line.now.bytes.now)) c.args.line.now.number c.add.result
-    (of_tie (the_view c.self.inside) (words_of c.args.line.now.bytes.now) h) c.add.ensures.err)
+    (errs_as (tie_line (the_view c.self.inside).ties c.args.words.now) constraint (entry_behind (the_view c.self.inside) c.args.words.now) c.args.line.now.number c.add.result
+    (of_tie (the_view c.self.inside) c.args.words.now h) c.add.ensures.err)
