@@ -3,3 +3,4 @@ pub mod Values
 pub mod Sizes
 pub mod Allowed
 pub mod RowRuns
+pub mod Units

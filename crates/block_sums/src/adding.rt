@@ -10,15 +10,12 @@ ghost use Rattle.block_sums.specs.Contributions.{to, constant_terms, column_term
 ghost use Rattle.block_sums.specs.Shares.{entry_share as share_of_entry};
 ghost use Rattle.block_sums.specs.Adding.{Adds, IsWeight, CouplesAll};
 
-use crate::shares::{constant_share, entry_share, load_share};
+use crate::shares::{UNIT_WEIGHT, constant_share, entry_share, load_share};
 use crate::system::System;
 use affine_constraints::Term;
 use local_blocks::Block;
 use serial_sum::{Contribution, Target, add_contribution};
 use sparsity::Rows;
-
-/// A free dof's weight as its own master: one, in ticks.
-pub(crate) const UNIT_WEIGHT: i64 = 65_536;
 
 /// Adds the contributions of a block to the rows, one after another. A sum above 2^80 in size isn't added. The
 /// least row with such a sum so far comes in and goes out, so that the blocks of a cell are added one by one.

@@ -12,8 +12,7 @@ ghost use Rattle.block_sums.specs.Shares.{entry_share as share_of_entry};
 ghost use Rattle.block_sums.specs.Adding.{IsWeight, CouplesAll};
 ghost use Rattle.block_sums.specs.RowAdding.{AddsToRow};
 
-use crate::adding::UNIT_WEIGHT;
-use crate::shares::{constant_share, entry_share, load_share};
+use crate::shares::{UNIT_WEIGHT, constant_share, entry_share, load_share};
 use crate::system::System;
 use affine_constraints::Term;
 use local_blocks::Block;

@@ -3,19 +3,27 @@ ghost use Rattle.block_sums.specs.Shares as shares;
 
 use fem_fixed::rdiv_by_power;
 
+/// A free dof's weight as its own master: one, in ticks. A share by it is the whole.
+pub(crate) const UNIT_WEIGHT: i64 = 65_536;
+
 /// A share of a load, in units of 2^-32: the weight is in ticks.
-#[tactic(auto, unfolding(crate::specs::Shares::load_share))]
+#[inline]
+#[tactic(auto, using(crate::proofs::Units::whole_load), unfolding(crate::specs::Shares::load_share))]
 pub fn load_share(weight: i64, load: i128) -> i128
     requires weight { unsigned_abs weight ≤ 2 ^ 31 }
     requires load { unsigned_abs load ≤ 2 ^ 72 }
     ensures value { result ≡ shares.load_share weight load }
     ensures size { unsigned_abs result ≤ 2 ^ 100 }
 {
+    if weight == UNIT_WEIGHT {
+        return load;
+    }
     rdiv_by_power(times(weight, load), 16)
 }
 
 /// A share of an entry, in units of 2^-32: both weights are in ticks.
-#[tactic(auto, unfolding(crate::specs::Shares::entry_share))]
+#[inline]
+#[tactic(auto, using(crate::proofs::Units::whole_entry), unfolding(crate::specs::Shares::entry_share))]
 pub fn entry_share(weight: i64, entry: i128, other: i64) -> i128
     requires weight { unsigned_abs weight ≤ 2 ^ 20 }
     requires entry { unsigned_abs entry ≤ 2 ^ 72 }
@@ -23,6 +31,9 @@ pub fn entry_share(weight: i64, entry: i128, other: i64) -> i128
     ensures value { result ≡ shares.entry_share weight entry other }
     ensures size { unsigned_abs result ≤ 2 ^ 100 }
 {
+    if weight == UNIT_WEIGHT && other == UNIT_WEIGHT {
+        return entry;
+    }
     rdiv_by_power(triple(weight, entry, other), 32)
 }
 

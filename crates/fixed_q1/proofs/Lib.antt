@@ -9,3 +9,4 @@ pub mod Jumps
 pub mod FaceBounds
 pub mod Turned
 pub mod Exchanged
+mod Certain
