@@ -19,7 +19,8 @@ use Rattle.colored_copier.specs.Keyed.{RowMe, JobRule, plan_of, finish_of, first
 use Rattle.colored_copier.specs.Passes.{PassView, Ties, unwritten}
 use Rattle.colored_copier.specs.declared.view.Phase.{Phase}
 use Rattle.colored_copier.specs.declared.view.Phase.TheVariants.{Fresh, Claimed, Over}
-use Rattle.colored_copier.specs.Places.{IsPlaced}
+use Rattle.colored_copier.specs.declared.places.Places.{Places}
+use Rattle.colored_copier.specs.Places.{ArePlaced}
 use Rattle.colored_copier.specs.Views.{Sound}
 use Rattle.colored_copier.proofs.Placed.{placed_at}
 use Rattle.colored_copier.proofs.Claims.{at_map_back}
@@ -127,14 +128,14 @@ module _ {J R : Type 0} (count : J → ℕ) (rows_of : J → ℕ → List ℕ) (
       (starts key.seats key.items key.rows.value.items (plan_of rows_of key) (finish_of row_step key) (first_view key) refl refl refl p)
 
   -- the fields of a round that was just made
-  pub made_sound : (z : TableId) (made key : Key J R) (job : J) (rows : List (ℕ × R)) (items : ℕ) (starts places : List ℕ) → z.words ≡ 1 → made ≡ key → key.job.value ≡ job → key.rows.value.items ≡ rows → key.items ≡ count job → items ≡ key.items → key.seats ≤ 64
-      → IsPlaced (rows_of job) (map row_number rows) (count job) starts places → Suits count rows_of fits job rows → Sound count rows_of fits z made items starts places
-  made_sound z made key job rows items starts places words same is-job is-rows is-items is-key few placed s =
-      subst (λ (k : Key J R). Sound count rows_of fits z k items starts places) (sym same) record {
+  pub made_sound : (z : TableId) (made key : Key J R) (job : J) (rows : List (ℕ × R)) (items : ℕ) (places : Places) → z.words ≡ 1 → made ≡ key → key.job.value ≡ job → key.rows.value.items ≡ rows → key.items ≡ count job → items ≡ key.items → key.seats ≤ 64
+      → ArePlaced (rows_of job) (map row_number rows) (count job) places → Suits count rows_of fits job rows → Sound count rows_of fits z made items places
+  made_sound z made key job rows items places words same is-job is-rows is-items is-key few placed s =
+      subst (λ (k : Key J R). Sound count rows_of fits z k items places) (sym same) record {
         words = words;
         items_is = is-key;
         count_is = is-key ∙ (is-items ∙ ap count (sym is-job));
         few_seats = few;
-        placed = placed_at rows_of job key.job.value rows key.rows.value.items (count job) items starts places is-job is-rows (is-key ∙ is-items) placed;
+        placed = placed_at rows_of job key.job.value rows key.rows.value.items (count job) items places is-job is-rows (is-key ∙ is-items) placed;
         suits = subst (λ j. Suits count rows_of fits j key.rows.value.items) (sym is-job) (subst (Suits count rows_of fits job) (sym is-rows) s);
       }

@@ -4,8 +4,11 @@ use mathlib.Core.Option.{some}
 use mathlib.Core.Logic.{dite}
 use native.Mathlib.Decide.{ℕ_discrete}
 use lib.ListN.{get_elem?}
-use Rattle.colored_copier.specs.Places.{IsPlaced, AddsItem}
-use Rattle.colored_copier.specs.Plans.{row_number}
+use Rattle.colored_copier.specs.declared.places.Places.{Places}
+use Rattle.colored_copier.specs.declared.places.Places.TheVariants.{Counted, Listed}
+use Rattle.colored_copier.specs.declared.places.PlaceLists.{PlaceLists}
+use Rattle.colored_copier.specs.Places.{IsPlaced, AddsItem, AreCounted, ArePlaced}
+use Rattle.colored_copier.specs.Plans.{In, row_number}
 use Rattle.colored_copier.proofs.Claims.{at_lt}
 use Rattle.colored_copier.proofs.Search.{got_is}
 
@@ -90,9 +93,18 @@ module _ (rows_of : ℕ → List ℕ) (numbers starts places : List ℕ) (items 
   place_there x is = let p = place_read in ap (get_elem? numbers) (is ∙ got_is places (s + i) x p.0 p.1) ∙ p.2
 
 -- the same at the round's own job and rows
-pub placed_at : {J R : Type 0} (rows_of : J → ℕ → List ℕ) (job job' : J) (rows rows' : List (ℕ × R)) (n items : ℕ) (starts places : List ℕ) → job' ≡ job → rows' ≡ rows → items ≡ n → IsPlaced (rows_of job) (map row_number rows) n starts places
-    → IsPlaced (rows_of job') (map row_number rows') items starts places
-placed_at {R = R} rows_of job job' rows rows' n items starts places a b e o =
-    subst (λ j. IsPlaced (rows_of j) (map row_number rows') items starts places) (sym a)
-    (subst (λ (l : List (ℕ × R)). IsPlaced (rows_of job) (map row_number l) items starts places) (sym b)
-    (subst (λ (k : ℕ). IsPlaced (rows_of job) (map row_number rows) k starts places) (sym e) o))
+pub placed_at : {J R : Type 0} (rows_of : J → ℕ → List ℕ) (job job' : J) (rows rows' : List (ℕ × R)) (n items : ℕ) (places : Places) → job' ≡ job → rows' ≡ rows → items ≡ n → ArePlaced (rows_of job) (map row_number rows) n places
+    → ArePlaced (rows_of job') (map row_number rows') items places
+placed_at {R = R} rows_of job job' rows rows' n items places a b e o =
+    subst (λ j. ArePlaced (rows_of j) (map row_number rows') items places) (sym a)
+    (subst (λ (l : List (ℕ × R)). ArePlaced (rows_of job) (map row_number l) items places) (sym b)
+    (subst (λ (k : ℕ). ArePlaced (rows_of job) (map row_number rows) k places) (sym e) o))
+
+module _ (rows_of : ℕ → List ℕ) (numbers : List ℕ) (items : ℕ) (places : Places) (o : ArePlaced rows_of numbers items places) where
+  -- a number that is its own place
+  pub counted_there : (row : ℕ) → places ≡ Counted → In row numbers → get_elem? numbers row ≡ some row
+  counted_there row is h = let all : AreCounted numbers = subst (ArePlaced rows_of numbers items) is o in ap (get_elem? numbers) (all h.0 row h.1) ∙ h.1
+
+  -- places that were looked up
+  pub listed : (lists : PlaceLists) → places ≡ Listed lists → IsPlaced rows_of numbers items lists.starts.items lists.places.items
+  listed lists is = subst (ArePlaced rows_of numbers items) is o

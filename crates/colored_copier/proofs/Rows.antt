@@ -5,9 +5,10 @@ use Rattle.std.proofs.lemmas.List.{length-map, append-nil}
 use mathlib.Core.Option.{some}
 use lib.ListN.{get_elem?}
 use Rattle.atomic_table.specs.Table.{rest}
+use Rattle.atomic_table.proofs.Lists.{at_map}
 use Rattle.colored_copier.specs.declared.view.View.{View}
 use Rattle.colored_copier.specs.declared.rule.Key.{Key}
-use Rattle.colored_copier.specs.Plans.{In, picks}
+use Rattle.colored_copier.specs.Plans.{In, row_number, picks}
 use Rattle.colored_copier.specs.Places.{Next}
 use Rattle.colored_copier.specs.Conditions.{Suits}
 use Rattle.colored_copier.specs.Rule.{steps}
@@ -82,3 +83,8 @@ module _ {J R : Type 0} (count : J → ℕ) (rows_of : J → ℕ → List ℕ) (
 
   pub row_at_index : (job : J) (n i : ℕ) (rs : List ℕ) → rs ≡ rows_of job n → i < length rs → get_elem? (rows_of job n) i ≡ some (get_or rs i 0)
   row_at_index job n i rs e lt = ap (λ l. get_elem? l i) (sym e) ∙ got rs i 0 lt
+
+  pub row_among : (key : Key J R) (job : J) (n i : ℕ) (rs : List ℕ) → job ≡ key.job.value → Suits count rows_of fits key.job.value key.rows.value.items → n < count job → rs ≡ rows_of job n → i < length rs → In (get_or rs i 0) (map row_number key.rows.value.items)
+  row_among key job n i rs is-job s lt is-rows below =
+      let a = row_of_item key job n i rs is-job s lt is-rows below in
+      (a.0, at_map row_number key.rows.value.items a.0 (get_or rs i 0, a.1) a.3)

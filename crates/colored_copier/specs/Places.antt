@@ -1,8 +1,10 @@
--- Where the rows of each item lie, looked up once.
+-- Where the rows of each item lie.
 use Rattle.std.specs.Prelude.{◌≡◌, ℕ, ◌+◌, ◌<◌, List, ◌∷◌, length}
 use mathlib.Core.Option.{some}
 use lib.ListN.{get_elem?}
 use Rattle.atomic_table.specs.Table.{rest}
+use Rattle.colored_copier.specs.declared.places.Places.{Places}
+use Rattle.colored_copier.specs.declared.places.Places.TheVariants.{Counted, Listed}
 
 -- the i-th row of the item n: its place stands i after the item's start, and there is its number
 pub record PlaceOf (numbers starts places : List ℕ) (n i row : ℕ) : Type 0 where
@@ -22,6 +24,15 @@ pub record AddsItem (numbers rows : List ℕ) (count : ℕ) (old new : List ℕ)
   pub longer : length new ≡ length old + count
   pub kept : (k : ℕ) → k < length old → get_elem? new k ≡ get_elem? old k
   pub added : (i row : ℕ) → i < count → get_elem? rows i ≡ some row → (place : ℕ) × (get_elem? new (length old + i) ≡ some place) × (get_elem? numbers place ≡ some row)
+
+-- each number is its own place
+abbrev pub AreCounted : List ℕ → Type 0
+AreCounted numbers = (k row : ℕ) → get_elem? numbers k ≡ some row → row ≡ k
+
+-- the rows of the first items have their places: their numbers, or those that were looked up
+abbrev pub ArePlaced : (ℕ → List ℕ) → List ℕ → ℕ → Places → Type 0
+ArePlaced rows_of numbers items Counted = AreCounted numbers
+ArePlaced rows_of numbers items (Listed lists) = IsPlaced rows_of numbers items lists.starts.items lists.places.items
 
 module _ {R : Type 0} where
   -- the seat's first slot has this row, as at first

@@ -5,7 +5,8 @@ use Rattle.colored_copier.specs.declared.rule.Key.{Key}
 use Rattle.colored_copier.specs.Plans.{row_number}
 use Rattle.colored_copier.specs.Conditions.{Suits}
 use Rattle.colored_copier.specs.Passes.{PassView}
-use Rattle.colored_copier.specs.Places.{IsPlaced}
+use Rattle.colored_copier.specs.declared.places.Places.{Places}
+use Rattle.colored_copier.specs.Places.{ArePlaced}
 
 -- its table, with the job, the rows at first and the number of passes
 pub record RoundView (X : Type 0) : Type 0 where
@@ -33,10 +34,10 @@ module _ {J R : Type 0} where
   seats_of round = round.key.seats
 
   -- how a round's fields fit its table
-  pub record Sound (count : J → ℕ) (rows_of : J → ℕ → List ℕ) (fits : J → ℕ → R → Type 0) (z : TableId) (key : Key J R) (items : ℕ) (starts places : List ℕ) : Type 0 where
+  pub record Sound (count : J → ℕ) (rows_of : J → ℕ → List ℕ) (fits : J → ℕ → R → Type 0) (z : TableId) (key : Key J R) (items : ℕ) (places : Places) : Type 0 where
     pub words : z.words ≡ 1
     pub items_is : items ≡ key.items
     pub count_is : items ≡ count key.job.value
     pub few_seats : key.seats ≤ 64
-    pub placed : IsPlaced (rows_of key.job.value) (map row_number key.rows.value.items) items starts places
+    pub placed : ArePlaced (rows_of key.job.value) (map row_number key.rows.value.items) items places
     pub suits : Suits count rows_of fits key.job.value key.rows.value.items

@@ -1,11 +1,11 @@
 //! A round: rows that are shared without a lock, and the items that are claimed one by one.
-ghost use Rattle.std.specs.Prelude.{◌≡◌, ◌<◌, ◌≤◌, ◌+◌, ◌^◌, [], ◌∷◌, ◌++◌, Some, ℕ, map, length, IfOk};
+ghost use Rattle.std.specs.Prelude.{◌≡◌, ◌<◌, ◌≤◌, ◌+◌, ◌^◌, [], ◌∷◌, ◌++◌, Some, ℕ, map, length, vec_len, IfOk};
 ghost use Rattle.std.specs.Vec.{vec_capacity};
 ghost use mathlib.Core.Option.{some};
 ghost use lib.ListN.{get_elem?};
 ghost use Rattle.atomic_table.specs.Table.{rest};
 ghost use Rattle.colored_copier.specs.Plans.{In, row_number};
-ghost use Rattle.colored_copier.specs.Places.{IsPlaced, Next};
+ghost use Rattle.colored_copier.specs.Places.{ArePlaced, Next};
 ghost use Rattle.colored_copier.specs.Rule.{steps, view};
 ghost use Rattle.colored_copier.specs.Keyed.{plan_of, finish_of};
 ghost use Rattle.colored_copier.specs.Conditions.{Suits};
@@ -14,7 +14,7 @@ ghost use Rattle.colored_copier.specs.Views.{seen_round};
 ghost use Rattle.colored_copier.specs.declared.view.Phase.TheVariants as phase;
 
 use crate::job::RowJob;
-use crate::moves::{move_all, put_back, take_all};
+use crate::moves::take_all;
 use crate::pass::RoundPass;
 use crate::places::Places;
 use crate::rule::{Key, Rounds};
@@ -42,7 +42,7 @@ pub struct Round<J: RowJob> {
     table: OwnedTable<J>,
     items: u64,
     places: Places,
-    // The vector that the rows came in, for `close`.
+    // An empty vector with room for all rows, for `close`.
     home: Parked<Vec<(u32, J::Row)>>,
 }
 
@@ -56,7 +56,7 @@ impl<J: RowJob> Model for Round<J> {
 
     ghost view = { λ r. seen_round r.table.shared.table_id r.table.shared.key };
 
-    ghost invariant = { λ r. Sound J.count J.rows_of J.fits r.table.shared.table_id r.table.shared.key r.items r.places.starts.items r.places.places.items × (vec_len r.home ≡ 0) × (r.table.shared.table_id.slots ≤ vec_capacity r.home) };
+    ghost invariant = { λ r. Sound J.count J.rows_of J.fits r.table.shared.table_id r.table.shared.key r.items r.places × (vec_len r.home ≡ 0) × (r.table.shared.table_id.slots ≤ vec_capacity r.home) };
 }
 
 /// What a claim found.
@@ -89,6 +89,27 @@ fn write_row<J: RowJob>(
     seat.turn();
 }
 
+// The place of the item's i-th row.
+fn row_place<J: RowJob>(
+    table: &RowTable<J>,
+    places: &Places,
+    job: &J,
+    item: u64,
+    i: usize,
+    row: u32,
+) -> usize
+    requires places { ArePlaced (J.rows_of job.now) (map row_number table.now.key.rows.value.items) (J.count job.now) places.now }
+    requires item { item < J.count job.now }
+    requires row { get_elem? (J.rows_of job.now item) i ≡ some row }
+    requires among { In row (map row_number table.now.key.rows.value.items) }
+    ensures { get_elem? (map row_number table.now.key.rows.value.items) result ≡ some row }
+{
+    match places {
+        Places::Counted => row as usize,
+        Places::Listed(lists) => lists.places[lists.starts[item as usize] + i],
+    }
+}
+
 // Writes all rows of the item that the seat has.
 fn write_all<J: RowJob>(
     table: &RowTable<J>,
@@ -99,16 +120,15 @@ fn write_all<J: RowJob>(
     copy: &J::Copy,
 )
     requires table { Suits J.count J.rows_of J.fits table.now.key.job.value table.now.key.rows.value.items }
-    requires places { IsPlaced (J.rows_of job.now) (map row_number table.now.key.rows.value.items) (J.count job.now) places.now.starts.items places.now.places.items }
+    requires places { ArePlaced (J.rows_of job.now) (map row_number table.now.key.rows.value.items) (J.count job.now) places.now }
     requires seat { (seat.old.table_id ≡ table.now.table_id) × (seat.old.me.1 ≡ plan_of J.rows_of table.now.key item) }
     requires job { (job.now ≡ table.now.key.job.value) × (item < J.count job.now) × J.stands job.now item copy.now }
     ensures same { seat.new.table_id ≡ seat.old.table_id }
     ensures me { seat.new.me ≡ (seat.old.me.0, steps (plan_of J.rows_of table.now.key) (finish_of J.row_step table.now.key) item) }
 {
     let rows = job.rows(item);
-    let start = places.starts[item as usize];
     for i in 0..rows.len() {
-        let place = places.places[start + i];
+        let place = row_place(table, places, job, item, i, rows[i]);
         write_row(table, place, seat, job, item, rows[i], copy);
     }
 }
@@ -135,26 +155,39 @@ fn deal<J: RowJob>(
 struct Room<J: RowJob> {
     places: Places,
     passes: Vec<RoundPass<J>>,
-    slots: Vec<(u32, J::Row)>,
+    home: Parked<Vec<(u32, J::Row)>>,
+}
+
+// An empty vector with room for this many values, parked.
+fn park_room<X>(alloc: Global, count: usize) -> Result<Parked<Vec<X>>, NoMemory>
+    ensures { IfOk result (λ home. (vec_len home ≡ 0) × (count ≤ vec_capacity home)) }
+{
+    match Parked::new(alloc, Vec::with_capacity(alloc, count)?) {
+        Ok(home) => Ok(home),
+        Err(home) => {
+            home.destroy_empty();
+            Err(NoMemory)
+        }
+    }
 }
 
 impl<J: RowJob> Room<J> {
     fn of(alloc: Global, job: &J, rows: &[(u32, J::Row)], seats: u32) -> Result<Room<J>, NoMemory>
         requires suits { Suits J.count J.rows_of J.fits job.now rows.now }
-        ensures places { IfOk result (λ r. IsPlaced (J.rows_of job.now) (map row_number rows.now) (J.count job.now) r.places.starts.items r.places.places.items) }
-        ensures empty { IfOk result (λ r. (r.passes.items ≡ []) × (r.slots.items ≡ [])) }
-        ensures room { IfOk result (λ r. (seats ≤ vec_capacity r.passes) × (length rows.now ≤ vec_capacity r.slots)) }
+        ensures places { IfOk result (λ r. ArePlaced (J.rows_of job.now) (map row_number rows.now) (J.count job.now) r.places) }
+        ensures passes { IfOk result (λ r. (r.passes.items ≡ []) × (seats ≤ vec_capacity r.passes)) }
+        ensures home { IfOk result (λ r. (vec_len r.home ≡ 0) × (length rows.now ≤ vec_capacity r.home)) }
     {
         let places = Places::of(alloc, job, rows)?;
         let passes = Vec::with_capacity(alloc, seats as usize)?;
-        let Ok(slots) = Vec::with_capacity(alloc, rows.len()) else {
+        let Ok(home) = park_room(alloc, rows.len()) else {
             passes.destroy_empty();
             return Err(NoMemory);
         };
         Ok(Room {
             places,
             passes,
-            slots,
+            home,
         })
     }
 }
@@ -178,7 +211,7 @@ impl<J: RowJob> Round<J> {
         places: Places,
         home: Parked<Vec<(u32, J::Row)>>,
     ) -> Round<J>
-        requires sound { Sound J.count J.rows_of J.fits table.shared.table_id table.shared.key items places.starts.items places.places.items }
+        requires sound { Sound J.count J.rows_of J.fits table.shared.table_id table.shared.key items places }
         requires home { (vec_len home ≡ 0) × (table.shared.table_id.slots ≤ vec_capacity home) }
         ensures { result ≡ seen_round table.shared.table_id table.shared.key }
     {
@@ -190,12 +223,12 @@ impl<J: RowJob> Round<J> {
         }
     }
 
-    /// Takes the rows, and gives as many passes as there are seats, 1 to 64. Each row of an item is looked up once. Where
-    /// there is no memory, the rows come back.
+    /// Takes the rows, and gives as many passes as there are seats, 1 to 64. Where the rows' numbers leave a gap, each row
+    /// of an item is looked up once. Where there is no memory, the rows come back.
     pub fn new(
         alloc: Global,
         job: &J,
-        mut rows: Vec<(u32, J::Row)>,
+        rows: Vec<(u32, J::Row)>,
         seats: u32,
     ) -> Result<(Round<J>, Vec<RoundPass<J>>), (Vec<(u32, J::Row)>, NoMemory)>
         requires suits { Suits J.count J.rows_of J.fits job.now rows.items }
@@ -208,7 +241,7 @@ impl<J: RowJob> Round<J> {
             Room {
                 places,
                 mut passes,
-                mut slots,
+                home,
             },
         ) = Room::of(alloc, job, &rows, seats)
         else {
@@ -220,22 +253,15 @@ impl<J: RowJob> Round<J> {
             items: job.items(),
             seats: seats as u64,
         };
-        move_all(&mut rows, &mut slots);
-        let home = match Parked::new(alloc, rows) {
-            Ok(home) => home,
-            Err(rows) => {
-                passes.destroy_empty();
-                return Err((put_back(slots, rows), NoMemory));
-            }
-        };
-        match Table::new(alloc, &[0], slots, &key) {
+        match Table::new(alloc, &[0], rows, &key) {
             Ok((table, dealer)) => {
                 deal(&table.shared, seats, dealer, &mut passes);
                 Ok((Round::of(table, key.items, places, home), passes))
             }
             Err(Refused { slots }) => {
                 passes.destroy_empty();
-                Err((put_back(slots, home.take()), NoMemory))
+                home.take().destroy_empty();
+                Err((slots, NoMemory))
             }
         }
     }
@@ -282,9 +308,9 @@ impl<J: RowJob> Round<J> {
         pass.written = true;
     }
 
-    /// Gives all rows back, in the vector that `new` took: each row that an item names after that item's `row_step`,
-    /// whichever pass claimed it, and each other row as it was. It takes all passes, each of which is over or has claimed
-    /// nothing, and one at least is over.
+    /// Gives all rows back, in their order: each row that an item names after that item's `row_step`, whichever pass
+    /// claimed it, and each other row as it was. It takes all passes, each of which is over or has claimed nothing, and one
+    /// at least is over.
     pub fn close(self, mut passes: Vec<RoundPass<J>>) -> Vec<(u32, J::Row)>
         requires done { AreDone self.table passes.items }
         requires all { vec_len passes ≡ seats_of self }

@@ -5,3 +5,4 @@ pub mod Popped
 pub mod ColorItems
 pub mod ColorSums
 pub mod ColorRounds
+pub mod HeldMarks

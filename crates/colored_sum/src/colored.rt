@@ -1,10 +1,10 @@
 //! The serial sum in the order of the colours.
-ghost use Rattle.std.specs.Prelude.{◌≡◌, ◌+◌, ◌<◌, ◌≤◌, ◌^◌, IfOk, IfErr, OnOk, Ok, map, length, slice_index};
+ghost use Rattle.std.specs.Prelude.{◌≡◌, ◌+◌, ◌<◌, ◌≤◌, ◌^◌, IfOk, IfErr, OnOk, Ok, Some, map, length, slice_index};
 ghost use Rattle.conflict_coloring.specs.Coloring.{IsColoring, AreStarts, color_count};
 ghost use Rattle.conflict_coloring.specs.Colours.{coloured};
 ghost use Rattle.conflict_coloring.specs.Cut.{part};
-ghost use Rattle.serial_sum.specs.Marks.{AreItems, IsRound};
-ghost use Rattle.serial_sum.specs.Rows.{FitsRows};
+ghost use Rattle.serial_sum.specs.Marks.{AreItems, IsRound, Tells};
+ghost use Rattle.serial_sum.specs.Rows.{AreUnmarked, FitsRows};
 ghost use Rattle.serial_sum.specs.SerialSum.{SumIs};
 ghost use Rattle.serial_sum.specs.Steps.{FaultIs};
 ghost use Rattle.mesh_loop.specs.Plans.{IsWithinRanges};
@@ -14,13 +14,14 @@ ghost use Rattle.colored_sum.specs.Crews.{IsAtHome};
 ghost use Rattle.colored_sum.specs.Rounds.{items_of};
 
 use crate::crew::{Crew, hand_out, take_back, work};
+use crate::heap_rows::HeapRows;
 use crate::row_job::MatrixRowJob;
 use colored_copier::Round;
 use conflict_coloring::Colors;
 use fem_fixed::NoMemory;
 use mesh_loop::{AssembleFault, Plan, Setup};
 use scratch_pool::Gate;
-use serial_sum::first_failure;
+use serial_sum::{Failure, first_failure};
 use sparsity::Rows;
 use std::alloc::Global;
 use std::thread::Threads;
@@ -29,8 +30,8 @@ use std::thread::Threads;
 /// cell after cell and writes its rows in place. After a colour with a cell that fails no later colour runs.
 ///
 /// Item k of a colour has at the gate the number that it has in the order of all cells. Threads that can't be
-/// started leave their work to the caller. The scratch objects and copy objects are made once and serve all rounds;
-/// nothing is allocated for an item.
+/// started leave their work to the caller. The scratch objects, the copy objects and the rows on the heap are made once
+/// and serve all rounds; nothing is allocated for an item.
 ///
 /// # Errors
 ///
@@ -49,17 +50,31 @@ pub fn assemble_colored<G: Gate + Sync, R: Threads + Sync>(
     ensures fails { IfErr result (FaultIs plan.now.digits (pattern_of setup.now) (parts_of setup.now colors.now.order)) }
 {
     setup.cells_are_written();
-    let mut rows = Rows::zero(alloc, setup.pattern())?;
+    let zeros = Rows::zero(alloc, setup.pattern())?;
+    let mut rows = HeapRows::of(alloc, zeros)?;
     let mut crew = Crew::new(alloc, plan)?;
     let starts = colors.starts();
     for color in 0..starts.len() - 1 {
         let job = MatrixRowJob::new(setup, cells_of_color(colors, color), plan.digits);
         rows = add_color(rt, alloc, &job, rows, &mut crew, starts[color], gate)?;
-        if let Some(failure) = first_failure(&rows) {
-            return Err(AssembleFault::from(failure));
+        if rows.has_mark() {
+            let failed = rows.into_rows(alloc)?;
+            return Err(AssembleFault::from(failure_of(&failed)));
         }
     }
-    Ok(rows)
+    let sums = rows.into_rows(alloc)?;
+    Ok(sums)
+}
+
+/// How a round failed, by the marks of the rows.
+fn failure_of(rows: &Rows) -> Failure
+    requires marked { AreUnmarked rows.now → ⊥ }
+    ensures { Tells rows.now (Some result) }
+{
+    match first_failure(rows) {
+        Some(failure) => failure,
+        None => unreachable!(),
+    }
 }
 
 /// The cells of a colour, rising.
@@ -81,11 +96,11 @@ fn add_color<G: Gate + Sync, R: Threads + Sync>(
     rt: &R,
     alloc: Global,
     job: &MatrixRowJob<'_>,
-    rows: Rows,
+    rows: HeapRows,
     crew: &mut Crew,
     first: u32,
     gate: &G,
-) -> Result<Rows, NoMemory>
+) -> Result<HeapRows, NoMemory>
     requires crew { IsAtHome crew.old }
     requires items { AreItems (pattern_of job.now.setup.now) (items_of job.now.setup.now job.now.cells.now) }
     requires few { length job.now.cells.now ≤ 2 ^ 32 }
@@ -103,5 +118,5 @@ fn add_color<G: Gate + Sync, R: Threads + Sync>(
     work(rt, job, &round, &crew.pool, &mut hands, first as u64, gate);
     take_back(&round, crew, &mut hands, &mut passes);
     hands.destroy_empty();
-    Ok(Rows::from_numbered(round.close(passes)))
+    Ok(HeapRows::from_numbered(round.close(passes)))
 }

@@ -5,7 +5,9 @@
 
 mod colored;
 mod crew;
+mod heap_rows;
 mod row_job;
 
 pub use colored::assemble_colored;
+pub use heap_rows::HeapRow;
 pub use row_job::MatrixRowJob;

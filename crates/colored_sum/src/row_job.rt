@@ -1,11 +1,11 @@
 //! What a round of a coloured assembly runs.
 ghost use Rattle.std.specs.Prelude.{◌≡◌, ◌<◌, ◌≤◌, All, length, slice_index};
 
+use crate::heap_rows::HeapRow;
 use block_sums::System;
 use cell_sums::write_row;
 use colored_copier::{RowJob, RowTurn, RowWorked};
 use mesh_loop::{CellCopy, CellScratch, Setup};
-use sparsity::Row;
 
 /// The cells of a colour as items of a round: item k is the cell at k. Its value is the cell's part; its rows are
 /// those that the cell writes, and each gets the contributions of the cell, or a mark where the cell fails.
@@ -51,7 +51,7 @@ impl RowJob for MatrixRowJob<'_> {
 
     type Copy = CellCopy;
 
-    type Row = Row;
+    type Row = HeapRow;
 
     ghost count = { λ j. length j.cells.now };
 
@@ -85,13 +85,19 @@ impl RowJob for MatrixRowJob<'_> {
         turn.done()
     }
 
-    fn copy_row(&self, item: u64, row: u32, copy: &CellCopy, value: &mut Row) {
+    fn copy_row(&self, item: u64, row: u32, copy: &CellCopy, value: &mut HeapRow) {
         self.setup.cells_are_written();
         let system = System {
             pattern: self.setup.pattern(),
             closed: self.setup.closed(),
             digits: self.digits,
         };
-        write_row(value, &system, row, self.cells[item as usize], copy);
+        write_row(
+            value.get_mut(),
+            &system,
+            row,
+            self.cells[item as usize],
+            copy,
+        );
     }
 }

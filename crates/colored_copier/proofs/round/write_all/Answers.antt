@@ -1,7 +1,5 @@
-use Rattle.std.proofs.Common.{arith, ◌∙◌, ◌≡◌, ◌+◌, suc, ℕ, map}
-use Rattle.colored_copier.specs.Plans.{row_number}
-use Rattle.colored_copier.proofs.Placed.{place_within, place_there}
-use Rattle.colored_copier.proofs.Rows.{row_ready, row_done, all_done, row_named, row_at_index}
+use Rattle.std.proofs.Common.{arith, ◌∙◌, ◌≡◌, ◌+◌, suc, ℕ}
+use Rattle.colored_copier.proofs.Rows.{row_ready, row_done, all_done, row_named, row_at_index, row_among}
 use Rattle.colored_copier.proofs.round.write_all.Goals as goal
 
 one_more : (n : ℕ) → suc n ≡ n + 1
@@ -17,22 +15,13 @@ write_row-requires-clause-seat g c κs within =
 pub write_row-requires-clause-job : goal.write_row-requires-clause-job
 write_row-requires-clause-job g c κs within = (c.requires.job.0, c.requires.job.1, row_named g.J.RowJob.count g.J.RowJob.rows_of g.J.RowJob.fits g.J.RowJob.row_step c.args.job.now c.args.item c.loop-i.i c.rows-rows.result.now c.rows-rows.ensures c.loop-i-test.true, c.requires.job.2)
 
-pub index-place-requires : goal.index-place-requires
-index-place-requires g c =
-    let named = row_at_index g.J.RowJob.count g.J.RowJob.rows_of g.J.RowJob.fits g.J.RowJob.row_step c.args.job.now c.args.item c.loop-i.i c.rows-rows.result.now c.rows-rows.ensures c.loop-i-test.true in
-    let within = place_within _ (map row_number c.args.table.now.key.rows.value.items) c.args.places.now.starts.items c.args.places.now.places.items _ c.args.item c.loop-i.i _ c.index-start.result.now c.requires.places c.requires.job.1 named c.index-start.ensures in
-    omega (arith, within, c.args.places.now.places.ok.0)
+pub row_place-place-requires-clause-row : goal.row_place-place-requires-clause-row
+row_place-place-requires-clause-row g c κs within =
+    row_at_index g.J.RowJob.count g.J.RowJob.rows_of g.J.RowJob.fits g.J.RowJob.row_step c.args.job.now c.args.item c.loop-i.i c.rows-rows.result.now c.rows-rows.ensures c.loop-i-test.true
 
-pub overflow_add-start : goal.overflow_add-start
-overflow_add-start g c =
-    let named = row_at_index g.J.RowJob.count g.J.RowJob.rows_of g.J.RowJob.fits g.J.RowJob.row_step c.args.job.now c.args.item c.loop-i.i c.rows-rows.result.now c.rows-rows.ensures c.loop-i-test.true in
-    let within = place_within _ (map row_number c.args.table.now.key.rows.value.items) c.args.places.now.starts.items c.args.places.now.places.items _ c.args.item c.loop-i.i _ c.index-start.result.now c.requires.places c.requires.job.1 named c.index-start.ensures in
-    grind (arith, within, c.args.places.now.places.ok.0, c.args.places.now.places.small)
-
-pub write_row-requires-clause-place : goal.write_row-requires-clause-place
-write_row-requires-clause-place g c κs within =
-    let named = row_at_index g.J.RowJob.count g.J.RowJob.rows_of g.J.RowJob.fits g.J.RowJob.row_step c.args.job.now c.args.item c.loop-i.i c.rows-rows.result.now c.rows-rows.ensures c.loop-i-test.true in
-    place_there _ (map row_number c.args.table.now.key.rows.value.items) c.args.places.now.starts.items c.args.places.now.places.items _ c.args.item c.loop-i.i _ c.index-start.result.now c.requires.places c.requires.job.1 named c.index-start.ensures c.index-place.result.now c.index-place.ensures
+pub row_place-place-requires-clause-among : goal.row_place-place-requires-clause-among
+row_place-place-requires-clause-among g c κs within =
+    row_among g.J.RowJob.count g.J.RowJob.rows_of g.J.RowJob.fits g.J.RowJob.row_step c.args.table.now.key c.args.job.now c.args.item c.loop-i.i c.rows-rows.result.now c.requires.job.0 c.requires.table c.requires.job.1 c.rows-rows.ensures c.loop-i-test.true
 
 pub loop-i-preserved : goal.loop-i-preserved
 loop-i-preserved g c =

@@ -1,4 +1,6 @@
-use Rattle.std.proofs.Common.{refl, slice_index}
+use Rattle.std.proofs.Common.{refl, slice_index, ap, ◌∙◌}
+use Rattle.sparsity.specs.declared.rows.Row.{Row}
+use Rattle.colored_sum.specs.Rounds.{row_with}
 use Rattle.colored_sum.proofs.RowSteps.{copy_held, row_stepped}
 use Rattle.colored_sum.proofs.row_job.MatrixRowJobRowJob.copy_row.Goals as goal
 
@@ -9,5 +11,6 @@ write_row-requires-clause-holds c =
 
 pub returns : goal.returns
 returns c =
-    row_stepped c.args.self.now.setup.now c.args.self.now.cells.now c.args.self.now.digits c.args.item c.args.row (slice_index c.args.self.now.cells.now c.args.item) c.args.value.now c.write_row.new.row c.pattern.result.now c.closed.result.now
+    row_stepped c.args.self.now.setup.now c.args.self.now.cells.now c.args.self.now.digits c.args.item c.args.row (slice_index c.args.self.now.cells.now c.args.item) c.get_mut.result.now c.write_row.new.row c.pattern.result.now c.closed.result.now
     c.args.copy.now c.requires.0 refl c.pattern.ensures c.closed.ensures c.requires.2 c.write_row.ensures.row
+    ∙ ap (λ (r : Row). row_with c.args.self.now.setup.now c.args.self.now.cells.now c.args.self.now.digits r c.args.item c.args.row) c.get_mut.ensures.value

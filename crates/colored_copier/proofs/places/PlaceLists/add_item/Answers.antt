@@ -1,7 +1,7 @@
 use Rattle.std.proofs.Common.{◌+◌, get_or, refl}
 use Rattle.colored_copier.proofs.Search.{got}
 use Rattle.colored_copier.proofs.Placed.{one_added}
-use Rattle.colored_copier.proofs.places.Places.add_item.Goals as goal
+use Rattle.colored_copier.proofs.places.PlaceLists.add_item.Goals as goal
 
 pub place_of-requires : goal.place_of-requires
 place_of-requires c = (c.requires.rise, c.requires.among _ (c.loop-i.i, got c.args.rows.now c.loop-i.i 0 c.loop-i-test.true))

@@ -2,7 +2,7 @@ use Rattle.std.proofs.Common.{◌≡◌, ◌+◌, ◌∙◌, ℕ, List, arith, m
 use Rattle.colored_copier.specs.Plans.{In, row_number}
 use Rattle.colored_copier.specs.Places.{IsPlaced, AddsItem}
 use Rattle.colored_copier.proofs.Placed.{one_placed}
-use Rattle.colored_copier.proofs.places.Places.of.Goals as goal
+use Rattle.colored_copier.proofs.places.PlaceLists.of.Goals as goal
 
 pub add_item-requires-clause-among : goal.add_item-requires-clause-among
 add_item-requires-clause-among g c =

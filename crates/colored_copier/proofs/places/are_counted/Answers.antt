@@ -1,0 +1,10 @@
+use Rattle.std.proofs.Common.{◌≡◌, ◌-◌, suc, ap, map, length, arith, ◌∙◌}
+use Rattle.std.proofs.lemmas.List.{length-map}
+use lib.ListN.{get_elem?}
+use mathlib.Core.Option.{some}
+use Rattle.colored_copier.specs.Plans.{row_number}
+use Rattle.colored_copier.proofs.Search.{counted, ends_at}
+use Rattle.colored_copier.proofs.places.are_counted.Goals as goal
+
+pub returns : goal.returns
+returns g c = λ e. ends_at c.args.rows.now (length c.args.rows.now - 1) _ c.requires (omega (arith, c.if-rows-eq0.false)) c.index-rows-rows.is (grind (arith, e))
