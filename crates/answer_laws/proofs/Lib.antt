@@ -5,6 +5,7 @@ mod Targets
 mod One
 mod Known
 mod Runs
+mod Clean
 mod SomeReadings
 mod SomeSums
 mod Some

@@ -1,30 +1,49 @@
--- What words ask for has an answer.
-use Rattle.std.proofs.Common.{◌≡◌, ℕ, List}
+-- Words have an answer.
+use Rattle.std.proofs.Common.{◌≡◌, refl, inl, inr, ◌∙◌, ap, ℕ, List, Bool, true, false}
+use Rattle.std.specs.Prelude.{Ok, Err}
 use Rattle.std.specs.declared.option.Option.{Option}
+use Rattle.std.proofs.lemmas.Bool.{cases_Bool}
 use Rattle.fem_fixed.specs.Mesh.{Mesh}
 use Rattle.fem_text.specs.Outside.{Held}
 use Rattle.problem_read.specs.Entries.{ProblemParts}
+use Rattle.run_words.specs.declared.options.Mode.{Mode}
 use Rattle.run_words.specs.Choice.{Choice}
+use Rattle.run_words.specs.Words.{AskFor, AskForSomethingOrNothing}
 use Rattle.run_texts.specs.Read.{SourceRead}
 use Rattle.system_setup.specs.SetUp.{IsSetUp}
 use Rattle.system_texts.specs.Texts.{SystemTexts}
 use Rattle.system_laws.specs.Laws.{AreQuadrilaterals, HasASetUp, TextsHaveQuadrilaterals}
-use Rattle.assemble_core.specs.Answer.{interior_of, Assembled, Defines}
+use Rattle.diagnostics.specs.declared.refusal.Refusal.TheVariants.{Words}
+use Rattle.assemble_core.specs.Answer.{interior_of, Asked, Assembled, Defines}
 use Rattle.answer_laws.specs.Parts.{HaveAReading, HaveAListOfTexts}
-use Rattle.answer_laws.specs.Existence.{HasItsColorings, HaveAnAnswer}
+use Rattle.answer_laws.specs.Existence.{HaveAnAnswer}
 use Rattle.answer_laws.proofs.Steps.{HasAnOutcome, some_after}
 use Rattle.answer_laws.proofs.SomeReadings.{source_mesh}
 
 -- Each step of the work has an outcome, as its law says.
-module _ (some_reading : HaveAReading)
+module _ (one_choice : (words : List (List ℕ)) (first second : Choice) → AskFor words first → AskFor words second → first ≡ second)
+    (some_choice : (words : List (List ℕ)) → AskForSomethingOrNothing words)
+    (some_reading : HaveAReading)
     (quadrilaterals : TextsHaveQuadrilaterals)
     (some_set_up : HasASetUp)
     (some_list : HaveAListOfTexts) where
-  some_assembled : (choice : Choice) (read : Mesh × ProblemParts) → HasItsColorings choice.mode → AreQuadrilaterals read.0 → HasAnOutcome (Assembled choice read)
-  some_assembled choice read has four =
-      some_after (IsSetUp (interior_of choice.faces) read.0 read.1) (SystemTexts choice) (some_set_up (interior_of choice.faces) read.0 read.1 four) (λ s is. some_list choice s has)
+  some_asked : (takes : Mode → Bool) (words : List (List ℕ)) → HasAnOutcome (Asked takes words)
+  some_asked takes words = elim (some_choice words) [
+    | inl asks ↦ elim (cases_Bool (takes asks.0.mode)) [
+      | inl taken ↦ (Ok asks.0, (asks.1, taken))
+      | inr left ↦ (Err Words, ((λ choice other. ap (λ (c : Choice). takes c.mode) (one_choice words choice asks.0 other asks.1) ∙ left), refl))
+    ]
+    | inr nothing ↦ (Err Words, ((λ choice asks. absurd (nothing choice asks)), refl))
+  ]
+
+  some_assembled : (choice : Choice) (read : Mesh × ProblemParts) → AreQuadrilaterals read.0 → HasAnOutcome (Assembled choice read)
+  some_assembled choice read four =
+      some_after (IsSetUp (interior_of choice.faces) read.0 read.1) (SystemTexts choice) (some_set_up (interior_of choice.faces) read.0 read.1 four) (λ s is. some_list choice s)
+
+  some_defined : (holds : Option Held) (choice : Choice) → HasAnOutcome (Defines holds choice)
+  some_defined holds choice =
+      some_after (SourceRead holds choice.source) (Assembled choice) (some_reading holds choice.source)
+      (λ read is. let mesh = source_mesh holds choice.source read is in some_assembled choice read (quadrilaterals mesh.0 read.0 mesh.1))
 
   pub some_answer : HaveAnAnswer
-  some_answer holds choice has =
-      some_after (SourceRead holds choice.source) (Assembled choice) (some_reading holds choice.source)
-      (λ read is. let mesh = source_mesh holds choice.source read is in some_assembled choice read has (quadrilaterals mesh.0 read.0 mesh.1))
+  some_answer takes words holds = some_after (Asked takes words) (Defines holds) (some_asked takes words) (λ choice is. some_defined holds choice)

@@ -3,6 +3,7 @@ use Rattle.std.proofs.Common.{refl, ℕ, List, [], ◌∷◌, map}
 use Rattle.std.specs.Prelude.{Some, None, Ok, Err}
 use Rattle.std.specs.declared.option.Option.{Option}
 use Rattle.std.specs.declared.result.Result.{Result}
+use Rattle.conflict_coloring.specs.Laws.{HaveAColoring}
 use Rattle.serial_sum.specs.SerialSum.{SumIs}
 use Rattle.serial_sum.specs.declared.part.CellPart.{CellPart}
 use Rattle.serial_sum.specs.declared.sum.AssembleFault.TheVariants as faults
@@ -19,7 +20,6 @@ use Rattle.run_words.specs.Choice.{Choice, Output}
 use Rattle.diagnostics.specs.declared.refusal.Refusal.TheVariants as refusals
 use Rattle.system_texts.specs.Sums.{IsOrderOf, SummedIn, Summed}
 use Rattle.system_texts.specs.Texts.{first_target, sum_targets, TextsOf, SystemTexts}
-use Rattle.answer_laws.specs.Existence.{HasItsColorings}
 use Rattle.answer_laws.proofs.Steps.{HasAnOutcome, some_after}
 
 summed_in : (order : List ℕ) (digits : ℕ) (s : MeshProblem) (sum : Result (List Row) Failure) → SumIs digits (pattern_of s) (parts_of s order) sum → HasAnOutcome (SummedIn order digits s)
@@ -32,31 +32,32 @@ summed : (mode : Mode) (digits : ℕ) (s : MeshProblem) (order : List ℕ) → I
 summed mode digits s order is (Ok rows, sum) = (Ok (Some rows), (order, is, sum))
 summed mode digits s order is (Err refusal, sum) = (Err refusal, (order, is, sum))
 
-some_texts_of : (mode : Mode) (output : Output) (s : MeshProblem) → HasItsColorings mode → (rows : Option (List Row)) (digits : ℕ) → Summed mode digits s (Ok rows) → HasAnOutcome (TextsOf mode output s rows)
-some_texts_of mode output s has (Some rows) digits is = (Ok (sum_targets output s rows), refl)
-some_texts_of modes.Pattern output s has None digits is = (Ok (first_target output (pattern_text (pattern_of s)) ∷ []), (pattern_text (pattern_of s), refl, refl))
-some_texts_of modes.Colors output s has None digits is =
-    let coloring = has (map (written_rows s) (cells_of s)) in
-    (Ok (first_target output (colors_text coloring.0) ∷ []), (colors_text coloring.0, (coloring.0, coloring.1, refl), refl))
-some_texts_of modes.Serial output s has None digits is = absurd is
-some_texts_of modes.Ordered output s has None digits is = absurd is
-some_texts_of modes.Colored output s has None digits is = absurd is
+-- Each list of parts has a sum and each list of cells a colouring, as their laws say.
+module _ (some_sum : (digits : ℕ) (pattern : List (List ℕ)) (parts : List CellPart) → (a : Result (List Row) Failure) × SumIs digits pattern parts a)
+    (some_coloring : HaveAColoring) where
+  some_texts_of : (mode : Mode) (output : Output) (s : MeshProblem) → (rows : Option (List Row)) (digits : ℕ) → Summed mode digits s (Ok rows) → HasAnOutcome (TextsOf mode output s rows)
+  some_texts_of mode output s (Some rows) digits is = (Ok (sum_targets output s rows), refl)
+  some_texts_of modes.Pattern output s None digits is = (Ok (first_target output (pattern_text (pattern_of s)) ∷ []), (pattern_text (pattern_of s), refl, refl))
+  some_texts_of modes.Colors output s None digits is =
+      let coloring = some_coloring (map (written_rows s) (cells_of s)) in
+      (Ok (first_target output (colors_text coloring.0) ∷ []), (colors_text coloring.0, (coloring.0, coloring.1, refl), refl))
+  some_texts_of modes.Serial output s None digits is = absurd is
+  some_texts_of modes.Ordered output s None digits is = absurd is
+  some_texts_of modes.Colored output s None digits is = absurd is
 
--- Each list of parts has a sum, as its law says.
-module _ (some_sum : (digits : ℕ) (pattern : List (List ℕ)) (parts : List CellPart) → (a : Result (List Row) Failure) × SumIs digits pattern parts a) where
   some_summed_in : (order : List ℕ) (digits : ℕ) (s : MeshProblem) → HasAnOutcome (SummedIn order digits s)
   some_summed_in order digits s = (let sum = some_sum digits (pattern_of s) (parts_of s order) in summed_in order digits s sum.0 sum.1)
 
-  some_summed : (mode : Mode) (digits : ℕ) (s : MeshProblem) → HasItsColorings mode → HasAnOutcome (Summed mode digits s)
-  some_summed modes.Serial digits s has = summed modes.Serial digits s (cells_of s) refl (some_summed_in (cells_of s) digits s)
-  some_summed modes.Ordered digits s has = summed modes.Ordered digits s (cells_of s) refl (some_summed_in (cells_of s) digits s)
-  some_summed modes.Colored digits s has =
-      let coloring = has (map (written_rows s) (cells_of s)) in
+  some_summed : (mode : Mode) (digits : ℕ) (s : MeshProblem) → HasAnOutcome (Summed mode digits s)
+  some_summed modes.Serial digits s = summed modes.Serial digits s (cells_of s) refl (some_summed_in (cells_of s) digits s)
+  some_summed modes.Ordered digits s = summed modes.Ordered digits s (cells_of s) refl (some_summed_in (cells_of s) digits s)
+  some_summed modes.Colored digits s =
+      let coloring = some_coloring (map (written_rows s) (cells_of s)) in
       summed modes.Colored digits s coloring.0.order (coloring.0, coloring.1, refl) (some_summed_in coloring.0.order digits s)
-  some_summed modes.Pattern digits s has = (Ok None, tt)
-  some_summed modes.Colors digits s has = (Ok None, tt)
+  some_summed modes.Pattern digits s = (Ok None, tt)
+  some_summed modes.Colors digits s = (Ok None, tt)
 
-  pub some_system_texts : (choice : Choice) (s : MeshProblem) → HasItsColorings choice.mode → HasAnOutcome (SystemTexts choice s)
-  some_system_texts choice s has =
-      some_after (Summed choice.mode choice.digits s) (TextsOf choice.mode choice.output s) (some_summed choice.mode choice.digits s has)
-      (λ rows is. some_texts_of choice.mode choice.output s has rows choice.digits is)
+  pub some_system_texts : (choice : Choice) (s : MeshProblem) → HasAnOutcome (SystemTexts choice s)
+  some_system_texts choice s =
+      some_after (Summed choice.mode choice.digits s) (TextsOf choice.mode choice.output s) (some_summed choice.mode choice.digits s)
+      (λ rows is. some_texts_of choice.mode choice.output s rows choice.digits is)

@@ -16,7 +16,6 @@ use Rattle.diagnostics.specs.Stages.{HasOneOutcome}
 use Rattle.system_texts.specs.Texts.{SystemTexts}
 use Rattle.system_laws.specs.Same.{IsSameSystem}
 use Rattle.assemble_core.specs.Answer.{Asked, Answers}
-use Rattle.answer_laws.specs.Existence.{HasItsColorings}
 
 -- the texts of a source are known: no two pairs of texts can be the ones that stand there
 abbrev pub AreKnown : Option Held → Source → Type 0
@@ -43,4 +42,4 @@ HaveAReading = (holds : Option Held) (source : Source) → (outcome : Result (Me
 
 -- a set-up has texts, or a refusal
 abbrev pub HaveAListOfTexts : Type 0
-HaveAListOfTexts = (choice : Choice) (s : MeshProblem) → HasItsColorings choice.mode → (outcome : Result (List Target) Refusal) × SystemTexts choice s outcome
+HaveAListOfTexts = (choice : Choice) (s : MeshProblem) → (outcome : Result (List Target) Refusal) × SystemTexts choice s outcome

@@ -1,5 +1,5 @@
 -- Laws of runs: what a run does with the answer of its words, and what its status tells of that answer.
-use Rattle.std.specs.Prelude.{◌≡◌, ◌≢◌, ◌⊎◌, ℕ, List, Bool, Some, None, Ok, Err}
+use Rattle.std.specs.Prelude.{◌≡◌, ◌≢◌, ◌⊎◌, ℕ, List, Bool, false, Some, None, Ok, Err}
 use Rattle.std.specs.declared.option.Option.{Option}
 use Rattle.std.specs.declared.result.Result.{Result}
 use Rattle.fem_text.specs.declared.counts.Counts.{Counts}
@@ -69,3 +69,11 @@ OthersTellTheRefusal =
     (takes : Mode → Bool) (words : List (List ℕ)) (before now : Outside) (status : ℕ) → AreTold takes words before.world.holds → IsRun takes words before now status →
     status ≢ 0 → ¬ IsOfOutside status →
     (refusal : Refusal) × IsTheAnswer takes words before.world.holds (Err refusal) × (status ≡ status_of refusal) × RefusedWith takes words before now refusal
+
+-- of the store and of standard output the last call did not fail
+abbrev pub NoneFailedLast : Outside → Type 0
+NoneFailedLast now = (now.world.store.failed_last ≡ false) × (now.world.out.failed_last ≡ false)
+
+-- where no last call failed, no read and no write stopped a run
+abbrev pub FaultsStopRuns : Type 0
+FaultsStopRuns = (takes : Mode → Bool) (words : List (List ℕ)) (before now : Outside) (status : ℕ) → NoneFailedLast now → IsRun takes words before now status → (status ≢ 10) × (status ≢ 11)

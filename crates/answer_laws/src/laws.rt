@@ -1,5 +1,5 @@
 ghost use Rattle.answer_laws.specs.Laws.{HaveOneAnswer, HaveOneAnswerWithoutTexts};
-ghost use Rattle.answer_laws.specs.Runs.{DefinedTextsAreWritten, DefinedRefusalsAreTold, ZeroTellsTheTexts, OthersTellTheRefusal};
+ghost use Rattle.answer_laws.specs.Runs.{DefinedTextsAreWritten, DefinedRefusalsAreTold, ZeroTellsTheTexts, OthersTellTheRefusal, FaultsStopRuns};
 ghost use Rattle.answer_laws.specs.Existence.{HaveAnAnswer};
 
 use crate::parts::{
@@ -56,11 +56,19 @@ pub fn a_status_tells_the_answer()
     words_without_texts_have_one_answer();
 }
 
-/// What words ask for has an answer over each store, so what is said of answers is never empty: texts or a refusal. In
-/// the modes `colored` and `colors` that is said as far as the cells of a system have a colouring.
-pub fn choices_have_an_answer()
+/// Where the last call of the store and that of standard output did not fail, no read and no write stopped a run: its
+/// status is neither 10 nor 11. So over a `CleanStore` and a `DropSink`, of which no call fails, a run on words and texts that
+/// define texts ends with status 0 or, for want of memory, with 12 (`defined_texts_are_written`).
+pub fn faults_stop_runs()
+    ensures { FaultsStopRuns }
+{}
+
+/// Words have an answer over each store, so what is said of answers is never empty: texts or a refusal.
+pub fn words_have_an_answer()
     ensures { HaveAnAnswer }
 {
+    run_words::one_reading();
+    run_words::words_have_a_reading();
     sources_have_a_reading();
     texts_have_quadrilaterals();
     a_mesh_has_a_set_up();

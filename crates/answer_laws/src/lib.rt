@@ -1,11 +1,12 @@
-//! Laws of answers: where the texts that are read are known, words have one answer at most, a run does what that answer says
-//! unless the outside stops it, and the status of a run tells the answer.
+//! Laws of answers: words have an answer, and one at most where the texts that are read are known; a run does what that
+//! answer says unless the outside stops it, and the status of a run tells the answer.
 #![tactic(auto)]
 
 mod laws;
 mod parts;
 
 pub use laws::{
-    a_defined_refusal_is_told, a_status_tells_the_answer, choices_have_an_answer,
-    defined_texts_are_written, words_have_one_answer, words_without_texts_have_one_answer,
+    a_defined_refusal_is_told, a_status_tells_the_answer, defined_texts_are_written,
+    faults_stop_runs, words_have_an_answer, words_have_one_answer,
+    words_without_texts_have_one_answer,
 };

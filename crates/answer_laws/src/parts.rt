@@ -1,6 +1,6 @@
 ghost use Rattle.answer_laws.specs.Parts.{HaveOneReading, HaveOneListOfTexts, HaveOneAnswerWhereKnown, HaveAReading, HaveAListOfTexts};
 
-use conflict_coloring::cells_have_one_coloring;
+use conflict_coloring::{cells_have_a_coloring, cells_have_one_coloring};
 use serial_sum::{sum_exists, sum_is_unique};
 use system_laws::a_mesh_has_one_system;
 
@@ -43,4 +43,5 @@ pub(crate) fn systems_have_a_list_of_texts()
     ensures { HaveAListOfTexts }
 {
     sum_exists();
+    cells_have_a_coloring();
 }

@@ -1,5 +1,9 @@
 mod Marks
 mod Layers
+mod Least
+mod SomeZones
+mod SomeRuns
+mod SomeColoring
 mod Members
 mod Spreads
 mod Table

@@ -4,5 +4,6 @@ pub mod Cuts
 pub mod NamedModes
 pub mod Places
 pub mod Rules
+pub mod SomeWords
 pub mod Taking
 pub mod Within

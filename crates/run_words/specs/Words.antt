@@ -71,6 +71,10 @@ pub record AskFor (words : List (List ℕ)) (choice : Choice) : Type 0 where
 abbrev pub AskForNothing : List (List ℕ) → Type 0
 AskForNothing words = (choice : Choice) → AskFor words choice → ⊥
 
+-- the words ask for something, or for nothing
+abbrev pub AskForSomethingOrNothing : List (List ℕ) → Type 0
+AskForSomethingOrNothing words = ((choice : Choice) × AskFor words choice) ⊎ AskForNothing words
+
 -- these words stand in a row among the words
 pub record StandInARow (row words : List (List ℕ)) : Type 0 where
   pub before : List (List ℕ)

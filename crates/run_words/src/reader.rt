@@ -1,7 +1,7 @@
 ghost use Rattle.std.specs.Prelude.{◌≡◌, ℕ, List, map, string_bytes, IfSome, IfNone};
 ghost use Rattle.run_words.specs.Choice.{Choice, seen};
 ghost use Rattle.run_words.specs.Ranges.{IsWithinRanges};
-ghost use Rattle.run_words.specs.Words.{AskFor, AskForNothing};
+ghost use Rattle.run_words.specs.Words.{AskFor, AskForNothing, AskForSomethingOrNothing};
 
 use crate::Options;
 use crate::choice::options_of;
@@ -23,6 +23,11 @@ pub fn read_words(words: &[String]) -> Option<Options<'_>>
 /// Words ask for one thing at most.
 pub fn one_reading()
     ensures { (words : List (List ℕ)) (first second : Choice) → AskFor words first → AskFor words second → first ≡ second }
+{}
+
+/// Words ask for something or for nothing, so one of the two answers of [`read_words`] is right for them.
+pub fn words_have_a_reading()
+    ensures { (words : List (List ℕ)) → AskForSomethingOrNothing words }
 {}
 
 /// What words ask for is within its ranges.

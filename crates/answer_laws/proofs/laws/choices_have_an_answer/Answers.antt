@@ -1,6 +1,0 @@
-use Rattle.answer_laws.proofs.Some.{some_answer}
-use Rattle.answer_laws.proofs.laws.choices_have_an_answer.Goals as goal
-
-pub returns : goal.returns
-returns c =
-    some_answer c.sources_have_a_reading.ensures c.texts_have_quadrilaterals.ensures c.a_mesh_has_a_set_up.ensures c.systems_have_a_list_of_texts.ensures
