@@ -10,6 +10,8 @@ mod laws;
 mod mesh_lines;
 mod nodes;
 mod refinement;
+#[cfg(test)]
+mod tests;
 mod ties;
 
 pub use closed_lines::constraint_lines;

@@ -2,6 +2,8 @@
 #![tactic(auto)]
 
 mod target;
+#[cfg(test)]
+mod tests;
 mod write;
 
 pub use target::Target;
