@@ -15,10 +15,10 @@ def grid(n):
             yield f"{1 + i + n * j} 1 quad {a} {a + 1} {a + n + 2} {a + n + 1}"
 
 
-def apart(cells):
+def apart(cells, columns=32):
     yield f"{4 * cells} {cells} 0 0 0"
     for c in range(cells):
-        x, y = 2 * (c % 32), 2 * (c // 32)
+        x, y = 2 * (c % columns), 2 * (c // columns)
         for k, (i, j) in enumerate([(0, 0), (1, 0), (1, 1), (0, 1)]):
             yield f"{4 * c + k + 1} {x + i} {y + j} 0"
     for c in range(cells):
