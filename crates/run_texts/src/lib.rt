@@ -3,5 +3,7 @@
 
 mod read;
 mod source;
+#[cfg(test)]
+mod tests;
 
 pub use source::read_source;
