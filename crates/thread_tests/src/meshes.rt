@@ -38,8 +38,7 @@ pub enum Mesh {
 }
 
 /// The mesh text, the problem text and the faces that are visited.
-fn texts_of(mesh: Mesh) -> (&'static str, &'static str, Interior)
-{
+fn texts_of(mesh: Mesh) -> (&'static str, &'static str, Interior) {
     match mesh {
         Mesh::Grid => (GRID, "diffusion 1 0.7\nsource 1 0.3\n", Interior::None),
         Mesh::Graded => (
