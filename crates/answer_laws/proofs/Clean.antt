@@ -17,7 +17,7 @@ use Rattle.assemble_core.specs.Run.{Outside, Leaves}
 use Rattle.answer_laws.specs.Runs.{NoneFailedLast, FaultsStopRuns}
 
 -- no status of a refusal is that of a fault of the outside
-not_outside : (refusal : Refusal) → (◌≢◌ {A = ℕ} (status_of refusal) 10) × (◌≢◌ {A = ℕ} (status_of refusal) 11)
+pub not_outside : (refusal : Refusal) → (◌≢◌ {A = ℕ} (status_of refusal) 10) × (◌≢◌ {A = ℕ} (status_of refusal) 11)
 not_outside Words = (λ e. cc, λ e. cc)
 not_outside (MeshText kind line) = (λ e. cc, λ e. cc)
 not_outside (ProblemText kind line) = (λ e. cc, λ e. cc)

@@ -6,6 +6,8 @@ mod One
 mod Known
 mod Runs
 mod Clean
+mod Complete
+mod Refusals
 mod SomeReadings
 mod SomeSums
 mod Some

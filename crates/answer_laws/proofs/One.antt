@@ -15,7 +15,7 @@ use Rattle.assemble_core.specs.Answer.{interior_of, Asked, Assembled, Defines}
 use Rattle.answer_laws.specs.Parts.{AreKnown, HaveOneReading, HaveOneListOfTexts, HaveOneAnswerWhereKnown}
 use Rattle.answer_laws.proofs.Steps.{Agree, one_after}
 
-taken_or_not : {P : Type 0} (taken : Bool) → taken ≡ true → taken ≡ false → P
+pub taken_or_not : {P : Type 0} (taken : Bool) → taken ≡ true → taken ≡ false → P
 taken_or_not taken h k = (let e : true ≡ false = sym h ∙ k in cc)
 
 -- Each step of the work has one outcome, as its law says.

@@ -1,5 +1,5 @@
 -- Laws of runs: what a run does with the answer of its words, and what its status tells of that answer.
-use Rattle.std.specs.Prelude.{◌≡◌, ◌≢◌, ◌⊎◌, ℕ, List, Bool, false, Some, None, Ok, Err}
+use Rattle.std.specs.Prelude.{◌≡◌, ◌≢◌, ◌⊎◌, ℕ, ◌<◌, ◌-◌, ◌^◌, List, Bool, false, Some, None, Ok, Err}
 use Rattle.std.specs.declared.option.Option.{Option}
 use Rattle.std.specs.declared.result.Result.{Result}
 use Rattle.fem_text.specs.declared.counts.Counts.{Counts}
@@ -8,7 +8,7 @@ use Rattle.run_words.specs.declared.options.Mode.{Mode}
 use Rattle.run_outputs.specs.Targets.{Target, after_targets}
 use Rattle.diagnostics.specs.declared.refusal.Refusal.{Refusal}
 use Rattle.diagnostics.specs.Lines.{status_of, refusal_line, TookLine}
-use Rattle.assemble_core.specs.Answer.{Answers}
+use Rattle.assemble_core.specs.Answer.{Answers, AreRefused}
 use Rattle.assemble_core.specs.Run.{Outside, IsRun, ReadsWell, IsUntouched, after_reads}
 use Rattle.answer_laws.specs.Laws.{ReadNothing}
 
@@ -34,6 +34,11 @@ pub record Wrote (takes : Mode → Bool) (words : List (List ℕ)) (before now :
 pub record RefusedWith (takes : Mode → Bool) (words : List (List ℕ)) (before now : Outside) (refusal : Refusal) : Type 0 where
   pub untouched : IsUntouched takes words before.world now.world
   pub line : TookLine before.told now.told before.tells now.tells (refusal_line refusal)
+
+-- the status of an answer: 0 for texts
+abbrev pub answer_status : Result (List Target) Refusal → ℕ
+answer_status (Ok targets) = 0
+answer_status (Err refusal) = status_of refusal
 
 -- the status of a run that a read stopped, or want of memory
 abbrev pub IsOfReads : ℕ → Type 0
@@ -77,3 +82,22 @@ NoneFailedLast now = (now.world.store.failed_last ≡ false) × (now.world.out.f
 -- where no last call failed, no read and no write stopped a run
 abbrev pub FaultsStopRuns : Type 0
 FaultsStopRuns = (takes : Mode → Bool) (words : List (List ℕ)) (before now : Outside) (status : ℕ) → NoneFailedLast now → IsRun takes words before now status → (status ≢ 10) × (status ≢ 11)
+
+-- of the store and of standard output no count of faults rose, and none stands at the end of its type
+pub record NoCountRose (before now : Outside) : Type 0 where
+  pub store : now.world.store.faults ≡ before.world.store.faults
+  pub out : now.world.out.faults ≡ before.world.out.faults
+  pub store_may : before.world.store.faults < 2 ^ 64 - 1
+  pub out_may : before.world.out.faults < 2 ^ 64 - 1
+
+-- where no count rose, the status is that of the answer, with 0 for texts, or memory ran out
+abbrev pub RunsAreComplete : Type 0
+RunsAreComplete =
+    (takes : Mode → Bool) (words : List (List ℕ)) (before now : Outside) (status : ℕ) (answer : Result (List Target) Refusal) → AreTold takes words before.world.holds →
+    Answers takes words before.world.holds answer → NoCountRose before now → IsRun takes words before now status → (status ≡ answer_status answer) ⊎ (status ≡ 12)
+
+-- the status is 2 exactly where the words are refused, whatever the store tells
+abbrev pub RefusedWordsHaveStatus2 : Type 0
+RefusedWordsHaveStatus2 =
+    (takes : Mode → Bool) (words : List (List ℕ)) (before now : Outside) (status : ℕ) → IsRun takes words before now status →
+    (status ≡ 2 → AreRefused takes words) × (AreRefused takes words → status ≡ 2)

@@ -1,5 +1,5 @@
 ghost use Rattle.answer_laws.specs.Laws.{HaveOneAnswer, HaveOneAnswerWithoutTexts};
-ghost use Rattle.answer_laws.specs.Runs.{DefinedTextsAreWritten, DefinedRefusalsAreTold, ZeroTellsTheTexts, OthersTellTheRefusal, FaultsStopRuns};
+ghost use Rattle.answer_laws.specs.Runs.{DefinedTextsAreWritten, DefinedRefusalsAreTold, ZeroTellsTheTexts, OthersTellTheRefusal, FaultsStopRuns, RunsAreComplete, RefusedWordsHaveStatus2};
 ghost use Rattle.answer_laws.specs.Existence.{HaveAnAnswer};
 
 use crate::parts::{
@@ -18,7 +18,8 @@ pub fn words_have_one_answer()
 
 /// Words that are refused, or that ask for a generated grid, have at most one answer over each store, whether or not
 /// it tells what it holds. So a run with status 0 (`IsRun`) on such words wrote the one list of texts that the words
-/// alone define, also over files and streams, of which nothing is told.
+/// alone define. Over files and streams, of which no content is told, that says which texts were written, and not what
+/// stands there afterwards.
 pub fn words_without_texts_have_one_answer()
     ensures { HaveOneAnswerWithoutTexts }
 {
@@ -61,6 +62,22 @@ pub fn a_status_tells_the_answer()
 /// define texts ends with status 0 or, for want of memory, with 12 (`defined_texts_are_written`).
 pub fn faults_stop_runs()
     ensures { FaultsStopRuns }
+{}
+
+/// Over such stores and for such words: where neither the store nor standard output counted a fault in the run, its status is
+/// that of the answer of its words and texts, with 0 for texts, or 12 for want of memory. No count of faults may stand at the
+/// end of its type before the run, where it can't rise.
+pub fn runs_are_complete()
+    ensures { RunsAreComplete }
+{
+    defined_texts_are_written();
+    a_defined_refusal_is_told();
+}
+
+/// The status of a run is 2 exactly where its words are refused, over each store, whatever it tells and holds: no other step of
+/// the work has this status, and nothing else is told of such words.
+pub fn refused_words_have_status_2()
+    ensures { RefusedWordsHaveStatus2 }
 {}
 
 /// Words have an answer over each store, so what is said of answers is never empty: texts or a refusal.

@@ -7,6 +7,6 @@ mod parts;
 
 pub use laws::{
     a_defined_refusal_is_told, a_status_tells_the_answer, defined_texts_are_written,
-    faults_stop_runs, words_have_an_answer, words_have_one_answer,
-    words_without_texts_have_one_answer,
+    faults_stop_runs, refused_words_have_status_2, runs_are_complete, words_have_an_answer,
+    words_have_one_answer, words_without_texts_have_one_answer,
 };

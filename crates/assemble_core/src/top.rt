@@ -16,7 +16,9 @@ use std::thread::Threads;
 /// The program: reads the mesh and the problem that the words name, or generates them, and writes what the words
 /// ask for.
 ///
-/// The status is 0 where all was written, and else one of these, in the order of work:
+/// The status is 0 where all was written, and else that of the first fault in the order of work: the words; the mesh text,
+/// read and judged, and then the problem text; the coarse mesh, its steps of refinement, the constraint lines, the pattern; the
+/// sums; the writing.
 ///
 /// | Status | Where |
 /// |---|---|

@@ -37,7 +37,7 @@ impl Conflicts {
         }
     }
 
-    /// Adds the next cell with the rows that it writes, rising. A refusal changes nothing.
+    /// Adds the next cell with the rows that it writes, in any order and with or without repeats. A refusal changes nothing.
     pub fn add(&mut self, rows: &[u32]) -> Result<(), NoMemory>
         requires { length self.old < u32.MAX }
         ensures added { OnOk result (self.new ≡ self.old ++ rows.now ∷ []) }

@@ -37,6 +37,8 @@ pub enum Next {
     Left,
 }
 
+/// What one caller holds of a pipeline: the number of the item that it drew, and a copy object from the start of the item until
+/// it is handed on.
 pub struct Pass<J: Job> {
     seat: Me<J>,
     copy: Option<J::Copy>,

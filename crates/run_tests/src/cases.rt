@@ -112,6 +112,7 @@ pub(crate) const SOME_LINES: [(&str, &str, &str, &[&str]); 6] = [
         "penalty 1\n",
         &["1 5 2147483648"],
     ),
+    // (half the diffusion with which a sum passes its limit, see below)
     (
         BOTH,
         LONG,
@@ -448,8 +449,8 @@ pub(crate) const NO_FAULT: Failing = Failing {
     diagnostic: 0,
 };
 
-// A run in which calls fail over the square with a source of 1, and what stands afterwards, under the names `m` and `r` too;
-// how many calls the store and standard output had, and whether the last one of the two was a failed one.
+// A run over the square with a source of 1 in which calls fail, and what stands afterwards: the status, what standard output
+// and the diagnostics took, the texts under the names `m` and `r`, and how many calls the store and standard output had.
 #[derive(Clone, Copy)]
 pub(crate) struct Faulty {
     pub(crate) words: &'static str,
@@ -463,7 +464,7 @@ pub(crate) struct Faulty {
     pub(crate) puts: u64,
 }
 
-// A run that is refused before it reads.
+// A run that is refused before it reads; other runs that write nothing take their rest from it.
 const NOTHING: Faulty = Faulty {
     words: "--mesh mesh --fast",
     failing: NO_FAULT,

@@ -92,7 +92,7 @@ fn sink_of(alloc: Global, room: usize, failing: u64) -> Option<MemorySink> {
     MemorySink::new(alloc, room, vec![in alloc; failing].ok()?).ok()
 }
 
-// Makes the call.
+// Makes the call. (There is no clause to prove.)
 #[tactic(none)]
 fn call<R: Runtime + Threads + Wait + Sync, S: Store>(
     rt: &R,
@@ -411,6 +411,6 @@ fn status_of_clean_run<R: Runtime + AllocGlobal + Threads + Wait + Sync>(rt: &R)
 }
 
 #[test]
-fn nothing_stops_a_run_over_a_clean_outside(rt: HostRuntime) {
+fn a_run_over_a_clean_outside_ends_well(rt: HostRuntime) {
     assert!(rt; status_of_clean_run(&rt) == Some(0));
 }

@@ -24,7 +24,8 @@ pub(crate) const GRID: &str =
 // The grid's sixth cell conducts well, and all others badly.
 pub(crate) const GRID_PROBLEM: &str = "diffusion 1 0.00048828125\ndiffusion 2 16384\n";
 
-// Five cells apart from each other, of which the second, the third and the fifth are of one tick.
+// Five cells apart from each other, of which the second, the third and the fifth are triangles of a tick, too small for a
+// local form.
 pub(crate) const TINY: &str =
     "20 5 0 0 0\n1 0 0 0\n2 1 0 0\n3 1 1 0\n4 0 1 0\n5 10 0 0\n6 10.0000152587890625 0 0\n\
 7 10 0.0000152587890625 0\n8 10 0.0000152587890625 0\n9 20 0 0\n10 20.0000152587890625 0 0\n\

@@ -51,7 +51,7 @@ fn what_is_not_read_is_told(rt: HostRuntime) -> Result<(), Fail> {
         (2, "other", absent),
     ] {
         let ending = read(rt.alloc(), fails, mesh)?.err().ok_or("an end")?;
-        assert!(rt; ending == wanted, "read {fails}");
+        assert!(rt; ending == wanted, "read {fails} of {mesh}");
     }
     Ok(())
 }
@@ -66,5 +66,6 @@ fn a_grid_is_drawn_and_nothing_is_read(rt: HostRuntime) -> Result<(), Fail> {
     assert_eq!(rt; parts.ids().len(), 9);
     assert_eq!(rt; parts.quads().len(), 4);
     assert_eq!(rt; problem.dirichlet(0), Some(0));
+    assert_eq!(rt; store.counts().calls, 0);
     Ok(())
 }

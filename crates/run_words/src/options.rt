@@ -69,7 +69,7 @@ pub enum Output<'a> {
     },
 }
 
-/// What the words ask for. The kept digits are those behind the binary point of a sum.
+/// What the words ask for. `digits` is how many leading binary digits each sum keeps; 0 keeps all.
 #[derive(Clone, Copy, Debug, PartialEq, Eq)]
 pub struct Options<'a> {
     pub mode: Mode,

@@ -86,7 +86,7 @@ fn sum_of(entry: i128, value: i128, digits: u32) -> Option<i128> {
     add_kept(entry, value, digits)
 }
 
-/// The nearest number to a product by a power of two.
+/// The nearest whole number to a product of three, divided by 2^32.
 fn share(a: i64, b: i128, c: i64) -> Option<i128> {
     let product = (a as i128).checked_mul(b)?.checked_mul(c as i128)?;
     Some(rdiv(product, 1 << 32))

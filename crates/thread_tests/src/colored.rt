@@ -1,7 +1,8 @@
 //! The sum in the order of the colours.
 use crate::meshes::Mesh;
 use crate::sums::{
-    Way, goes_well, holds_item_zero, is_as_the_loop, is_not_as_the_loop, serial_fault, tells,
+    Way, agrees_but_not_with_the_loop, goes_well, holds_item_zero, is_as_the_loop, serial_fault,
+    tells,
 };
 use fixed_q1::LocalFault;
 use mesh_loop::AssembleFault;
@@ -15,7 +16,7 @@ fn with_all_digits_the_rows_are_those_of_the_serial_sum(rt: HostRuntime) {
 // With some digits the order of the cells decides.
 #[test]
 fn with_some_digits_all_shapes_give_the_same_rows(rt: HostRuntime) {
-    assert!(rt; is_not_as_the_loop(&rt, Way::Colored, Mesh::Graded, 24));
+    assert!(rt; agrees_but_not_with_the_loop(&rt, Way::Colored, Mesh::Graded, 24));
 }
 
 // The second, the third and the last cell fail; the first colour has the third and the last.

@@ -1,4 +1,4 @@
-//! Tests that several threads do the work of a sum and of a run, and that the sums are the serial ones.
+//! Tests that several threads do the work of a sum and of a run, and that the sum is the same whatever their number.
 #![tactic(auto)]
 
 #[cfg(test)]

@@ -30,7 +30,7 @@ const STRIP: &str =
 pub enum Mesh {
     /// The grid, with a diffusion and a source that aren't whole.
     Grid,
-    /// Two by two cells, of which the first is divided twice towards the middle: ten cells with hanging corners, and the
+    /// Two by two cells, of which the first is divided, and then its first child: ten cells with hanging corners, and the
     /// jumps over their inner faces.
     Graded,
     /// The strip of five cells, of which three fail.

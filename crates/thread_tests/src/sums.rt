@@ -276,7 +276,7 @@ fn all_give_other_rows<R: Threads + Wait + Sync + AllocGlobal>(
 }
 
 /// Whether all shapes of a run on a mesh give the same rows, and the loop gives others.
-pub fn is_not_as_the_loop<R: Threads + Wait + Sync + AllocGlobal>(
+pub fn agrees_but_not_with_the_loop<R: Threads + Wait + Sync + AllocGlobal>(
     rt: &R,
     way: Way,
     mesh: Mesh,
