@@ -92,6 +92,7 @@ def cases():
     yield "a closed line of 17 terms", chain(17), SUMMARY, 6, b"assemble: 6 Constraint Terms 0\n"
     yield "a text of 268,435,456 blanks", {"mesh.inp": blanks(268_435_456)}, mesh, 3, b"assemble: 3 MeshText"
     yield "a text of one blank more", {"mesh.inp": blanks(268_435_457)}, mesh, 9, b"assemble: 9 Limit MeshSize\n"
+    yield "a problem of one blank more", {"mesh.inp": text(SQUARE), "problem.txt": blanks(268_435_457)}, SUMMARY, 9, b"assemble: 9 Limit ProblemSize\n"
     yield "1,048,576 nodes", {"mesh.inp": text(scattered(262_144))}, [*mesh, "--summary"], 0, b"cells 262144\n"
     yield "1,048,577 nodes", {"mesh.inp": text(["1048577 0 0 0 0"])}, mesh, 9, b"assemble: 9 Limit MeshCount line 1\n"
     yield "33,554,432 pairs", groups(8184, 2), PATTERN, 0, b""

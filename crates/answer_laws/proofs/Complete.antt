@@ -1,23 +1,19 @@
 -- Runs in which no count of faults rose.
-use Rattle.std.proofs.Common.{◌≡◌, ◌≢◌, ◌∙◌, ◌⊎◌, ◌∷◌, [], inl, inr, ap, sym, refl, ℕ, ◌<◌, ◌+◌, ◌-◌, ◌^◌, List, Bool, true, false, arith}
-use Rattle.std.specs.Prelude.{fold, min, Ok, Err}
-use Rattle.std.specs.declared.option.Option.{Option}
+use Rattle.std.proofs.Common.{◌≡◌, ◌≢◌, ◌∙◌, ◌⊎◌, ◌∷◌, [], inl, inr, ap, sym, refl, ℕ, ◌<◌, ◌-◌, ◌^◌, List, Bool, arith}
+use Rattle.std.specs.Prelude.{Ok, Err}
 use Rattle.std.specs.declared.result.Result.{Result}
 use Rattle.fem_text.specs.declared.counts.Counts.{Counts}
-use Rattle.fem_text.specs.Counts.{after_call, after_good, one_more, pieces, Rose}
+use Rattle.fem_text.specs.Counts.{one_more, pieces, Rose}
 use Rattle.fem_text.proofs.Counted.{good_faults, fault_rose, one_fault}
 use Rattle.run_words.specs.declared.options.Mode.{Mode}
 use Rattle.run_words.specs.Choice.{Destination, standard, named}
-use Rattle.run_texts.specs.Read.{CallsEnd, names_in}
 use Rattle.run_outputs.specs.Targets.{Target, World, after_text, after_target, after_targets}
 use Rattle.run_outputs.specs.Stops.{StandsInPart}
-use Rattle.diagnostics.specs.declared.refusal.Refusal.{Refusal}
 use Rattle.diagnostics.specs.declared.ending.Ending.{Ending}
 use Rattle.diagnostics.specs.declared.ending.Ending.TheVariants as endings
-use Rattle.assemble_core.specs.Answer.{Answers}
 use Rattle.assemble_core.specs.Run as run
 use Rattle.assemble_core.specs.Run.{Outside, Leaves, IsRun, ReadsWell, after_reads}
-use Rattle.answer_laws.specs.Runs.{AreTold, Wrote, RefusedWith, IsOfReads, IsOfOutside, NoCountRose, DefinedTextsAreWritten, DefinedRefusalsAreTold, RunsAreComplete, answer_status}
+use Rattle.answer_laws.specs.Runs.{IsOfReads, IsOfOutside, NoCountRose, DefinedTextsAreWritten, DefinedRefusalsAreTold, RunsAreComplete, answer_status}
 use Rattle.answer_laws.proofs.Clean.{not_outside}
 
 -- a count below the end of its type that stays did not rise

@@ -1,5 +1,5 @@
 -- Status 2 is that of words that are refused: no other step of the work refuses words.
-use Rattle.std.proofs.Common.{◌≡◌, ◌≢◌, ◌∙◌, ◌⊎◌, inl, inr, sym, ap, refl, ℕ, List, Bool, true, false}
+use Rattle.std.proofs.Common.{◌≡◌, ◌≢◌, ◌∙◌, inl, inr, sym, ap, refl, ℕ, List, Bool}
 use Rattle.std.specs.Prelude.{Some, None, Ok, Err}
 use Rattle.std.specs.declared.option.Option.{Option}
 use Rattle.std.specs.declared.result.Result.{Result}
@@ -42,11 +42,11 @@ use Rattle.diagnostics.specs.declared.ending.Ending.TheVariants as endings
 use Rattle.diagnostics.specs.Layers.{of_mesh_text, of_problem_text, of_mesh, of_refining, of_constraints, of_sum}
 use Rattle.diagnostics.specs.Lines.{status_of}
 use Rattle.diagnostics.specs.Stages.{Then, stops, goes, Says}
-use Rattle.run_texts.specs.Texts.{Texts, TextFor, MeshIn, ProblemIn, MeshOf, ProblemOf, ReadTexts}
+use Rattle.run_texts.specs.Texts.{Texts, TextFor, MeshIn, ProblemIn, ReadTexts}
 use Rattle.run_texts.specs.Read.{SourceRead}
-use Rattle.system_setup.specs.SetUp.{CoarseOf, RefinedFrom, LinesFor, PatternedFor, SetUpOn, IsSetUp}
-use Rattle.system_texts.specs.Sums.{SummedIn, SummedBy, Summed}
-use Rattle.system_texts.specs.Texts.{TextsOf, SystemTexts}
+use Rattle.system_setup.specs.SetUp.{CoarseOf, RefinedFrom, LinesFor, PatternedFor, IsSetUp}
+use Rattle.system_texts.specs.Sums.{SummedBy, Summed}
+use Rattle.system_texts.specs.Texts.{TextsOf}
 use Rattle.assemble_core.specs.Answer.{interior_of, AreRefused, Asked, Assembled, Defines, Answers}
 use Rattle.assemble_core.specs.Run as run
 use Rattle.assemble_core.specs.Run.{Outside, Leaves}
@@ -146,7 +146,7 @@ lines_keep : (ids : List ℕ) (problem : ProblemParts) (forest : RefinedMesh) �
 lines_keep ids problem forest refusal is = says_keeps _ _ constraints_keep refusal is
 
 pattern_keeps : (interior : Interior) (problem : ProblemParts) (forest : RefinedMesh) (table : List (Option AffineLine)) → KeepsWords (PatternedFor interior problem forest table)
-pattern_keeps interior problem forest table refusal is same = (let e : Limit _ ≡ Words = sym is.2.2.2 ∙ same in cc)
+pattern_keeps interior problem forest table refusal is same = (let e : Limit _ ≡ Words = sym is.3 ∙ same in cc)
 
 set_up_keeps : (interior : Interior) (parts : MeshParts) (problem : ProblemParts) → KeepsWords (IsSetUp interior parts problem)
 set_up_keeps interior parts problem =

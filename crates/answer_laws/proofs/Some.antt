@@ -1,5 +1,5 @@
 -- Words have an answer.
-use Rattle.std.proofs.Common.{◌≡◌, refl, inl, inr, ◌∙◌, ap, ℕ, List, Bool, true, false}
+use Rattle.std.proofs.Common.{◌≡◌, refl, inl, inr, ◌∙◌, ap, ℕ, List, Bool}
 use Rattle.std.specs.Prelude.{Ok, Err}
 use Rattle.std.specs.declared.option.Option.{Option}
 use Rattle.std.proofs.lemmas.Bool.{cases_Bool}
