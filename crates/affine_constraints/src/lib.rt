@@ -16,8 +16,6 @@ mod line_set;
 mod search;
 mod table;
 mod term;
-#[cfg(test)]
-mod tests;
 
 pub use closed::Closed;
 pub use fault::{CloseFault, LineFault};

@@ -40,9 +40,9 @@ not_stopped : (takes : Mode → Bool) (words : List (List ℕ)) (before now : Ou
 not_stopped takes words before now well (Ok unit) leaves = (λ e. cc, λ e. cc)
 not_stopped takes words before now well (Err (endings.Refused refusal)) leaves = not_outside refusal
 not_stopped takes words before now well (Err (endings.ReadFault role)) leaves =
-    absurd (failed_last now.world.store true (ap (λ (c : Counts). c.failed_last) leaves.reads.2) well.0 refl)
+    absurd (failed_last now.world.store true (ap (λ (c : Counts). c.failed_last) leaves.reads) well.0 refl)
 not_stopped takes words before now well (Err (endings.WriteFault output)) leaves =
-    absurd (in_part (after_targets (run.after_reads before.world leaves.reads) leaves.stops.whole) now.world leaves.stops.target.destination leaves.stops.target.text leaves.stops.stops.1 well.0 well.1)
+    absurd (in_part (after_targets (run.after_source before.world leaves.choice.source) leaves.stops.whole) now.world leaves.stops.target.destination leaves.stops.target.text leaves.stops.stops.1 well.0 well.1)
 not_stopped takes words before now well (Err endings.NoMemory) leaves = (λ e. cc, λ e. cc)
 
 pub faults_stop_runs : FaultsStopRuns

@@ -1,18 +1,18 @@
 -- Runs in which no count of faults rose.
-use Rattle.std.proofs.Common.{◌≡◌, ◌≢◌, ◌∙◌, ◌⊎◌, ◌∷◌, [], inl, inr, ap, sym, refl, ℕ, ◌<◌, ◌-◌, ◌^◌, List, Bool, arith}
+use Rattle.std.proofs.Common.{◌≡◌, ◌≢◌, ◌∙◌, ◌⊎◌, ◌∷◌, [], inl, inr, sym, refl, ℕ, ◌<◌, ◌-◌, ◌^◌, List, Bool, arith}
 use Rattle.std.specs.Prelude.{Ok, Err}
 use Rattle.std.specs.declared.result.Result.{Result}
-use Rattle.fem_text.specs.declared.counts.Counts.{Counts}
 use Rattle.fem_text.specs.Counts.{one_more, pieces, Rose}
 use Rattle.fem_text.proofs.Counted.{good_faults, fault_rose, one_fault}
 use Rattle.run_words.specs.declared.options.Mode.{Mode}
 use Rattle.run_words.specs.Choice.{Destination, standard, named}
+use Rattle.run_texts.specs.Read.{names_in, reads_before}
 use Rattle.run_outputs.specs.Targets.{Target, World, after_text, after_target, after_targets}
 use Rattle.run_outputs.specs.Stops.{StandsInPart}
 use Rattle.diagnostics.specs.declared.ending.Ending.{Ending}
 use Rattle.diagnostics.specs.declared.ending.Ending.TheVariants as endings
 use Rattle.assemble_core.specs.Run as run
-use Rattle.assemble_core.specs.Run.{Outside, Leaves, IsRun, ReadsWell, after_reads}
+use Rattle.assemble_core.specs.Run.{Outside, Leaves, after_source}
 use Rattle.answer_laws.specs.Runs.{IsOfReads, IsOfOutside, NoCountRose, DefinedTextsAreWritten, DefinedRefusalsAreTold, RunsAreComplete, answer_status}
 use Rattle.answer_laws.proofs.Clean.{not_outside}
 
@@ -20,12 +20,7 @@ use Rattle.answer_laws.proofs.Clean.{not_outside}
 stays : {P : Type 0} (before now : ℕ) → now ≡ one_more before → now ≡ before → before < 2 ^ 64 - 1 → P
 stays before now rose same below = absurd (omega (arith, rose, same, below))
 
--- reads that went well leave the count of faults
-reads_leave : (takes : Mode → Bool) (words : List (List ℕ)) (before now : Counts) → ReadsWell takes words before now → now.faults ≡ before.faults
-reads_leave takes words before now (inl e) = ap (λ (c : Counts). c.faults) e
-reads_leave takes words before now (inr (choice, asked, (k, most, e))) = ap (λ (c : Counts). c.faults) e ∙ good_faults k before
-
--- so do whole texts
+-- whole texts leave the counts of faults
 text_leaves : (world : World) (destination : Destination) (text : List ℕ) →
     ((after_text world destination text).store.faults ≡ world.store.faults) × ((after_text world destination text).out.faults ≡ world.out.faults)
 text_leaves world standard text = (refl, good_faults (pieces text) world.out)
@@ -50,12 +45,12 @@ not_stopped : (takes : Mode → Bool) (words : List (List ℕ)) (before now : Ou
 not_stopped takes words before now none (Ok unit) leaves = (λ e. cc, λ e. cc)
 not_stopped takes words before now none (Err (endings.Refused refusal)) leaves = not_outside refusal
 not_stopped takes words before now none (Err (endings.ReadFault role)) leaves =
-    let rose : Rose before.world.store now.world.store = fault_rose before.world.store now.world.store (leaves.reads.0, leaves.reads.2) in
+    let rose : Rose before.world.store now.world.store = fault_rose before.world.store now.world.store (reads_before role, leaves.reads) in
     stays before.world.store.faults now.world.store.faults rose none.store none.store_may
 not_stopped takes words before now none (Err (endings.WriteFault output)) leaves =
-    let start : World = after_reads before.world leaves.reads in
+    let start : World = after_source before.world leaves.choice.source in
     let whole : World = after_targets start leaves.stops.whole in
-    let read = reads_leave takes words before.world.store leaves.reads leaves.reads_well in
+    let read = good_faults (names_in leaves.choice.source) before.world.store in
     let wrote = texts_leave start leaves.stops.whole in
     let store : whole.store.faults ≡ before.world.store.faults = wrote.0 ∙ read in
     let out : whole.out.faults ≡ before.world.out.faults = wrote.1 in

@@ -15,7 +15,7 @@ use Rattle.problem_read.specs.Problem.{ProblemText, ProblemFaultAt}
 use Rattle.diagnostics.specs.declared.refusal.Refusal.{Refusal}
 use Rattle.diagnostics.specs.declared.ending.Role.{Role}
 use Rattle.diagnostics.specs.declared.ending.Role.TheVariants as roles
-use Rattle.diagnostics.specs.Layers.{of_mesh_text, of_problem_text}
+use Rattle.run_texts.specs.Endings.{of_mesh_text, of_problem_text}
 use Rattle.diagnostics.specs.Stages.{Then}
 use Rattle.run_texts.specs.Texts.{Texts, text_limit, TextFor, MeshIn, ProblemIn, MeshOf, ProblemOf, ReadTexts}
 use Rattle.answer_laws.specs.Parts.{HaveOneReading}

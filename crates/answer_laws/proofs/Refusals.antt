@@ -39,7 +39,9 @@ use Rattle.diagnostics.specs.declared.refusal.Refusal.{Refusal}
 use Rattle.diagnostics.specs.declared.refusal.Refusal.TheVariants.{Words, MeshText, ProblemText, Mesh, Constraint, Local, Sum, Limit, Absent}
 use Rattle.diagnostics.specs.declared.ending.Ending.{Ending}
 use Rattle.diagnostics.specs.declared.ending.Ending.TheVariants as endings
-use Rattle.diagnostics.specs.Layers.{of_mesh_text, of_problem_text, of_mesh, of_refining, of_constraints, of_sum}
+use Rattle.run_texts.specs.Endings.{of_mesh_text, of_problem_text}
+use Rattle.system_setup.specs.Endings.{of_mesh, of_refining, of_constraints}
+use Rattle.system_texts.specs.Endings.{of_sum}
 use Rattle.diagnostics.specs.Lines.{status_of}
 use Rattle.diagnostics.specs.Stages.{Then, stops, goes, Says}
 use Rattle.run_texts.specs.Texts.{Texts, TextFor, MeshIn, ProblemIn, ReadTexts}

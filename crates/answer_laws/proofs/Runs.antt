@@ -15,7 +15,7 @@ use Rattle.diagnostics.specs.Lines.{status_of, refusal_line, TookLine}
 use Rattle.diagnostics.specs.Stages.{HasOneOutcome}
 use Rattle.assemble_core.specs.Answer.{Answers}
 use Rattle.assemble_core.specs.Run as run
-use Rattle.assemble_core.specs.Run.{Outside, Leaves, Tells, IsWritten, after_reads}
+use Rattle.assemble_core.specs.Run.{Outside, Leaves, Tells, IsWritten, after_reads, after_source}
 use Rattle.answer_laws.specs.Laws.{HaveOneAnswer, HaveOneAnswerWithoutTexts}
 use Rattle.answer_laws.specs.Runs.{AreTold, IsTheAnswer, Wrote, RefusedWith, IsOfReads, IsOfOutside, DefinedTextsAreWritten, DefinedRefusalsAreTold, ZeroTellsTheTexts, OthersTellTheRefusal}
 
@@ -34,9 +34,9 @@ not_zero (Absent role) e = cc
 wrote : (takes : Mode → Bool) (words : List (List ℕ)) (before now : Outside) → (w : IsWritten takes words before.world now.world) → Tells before now (Ok tt) → (targets : List Target) →
     w.targets ≡ targets → Wrote takes words before now targets
 wrote takes words before now w told targets same = record {
-  reads = w.reads;
-  reads_well = w.reads_well;
-  written = w.written ∙ ap (after_targets (after_reads before.world w.reads)) same;
+  choice = w.choice;
+  asked = w.asked;
+  written = w.written ∙ ap (after_targets (after_source before.world w.choice.source)) same;
   told = told.0;
   tells = told.1;
 }

@@ -25,7 +25,7 @@ use Rattle.diagnostics.specs.declared.kinds.ProblemTextKind.TheVariants as probl
 use Rattle.diagnostics.specs.declared.ending.Ending.TheVariants.{Refused}
 use Rattle.diagnostics.specs.declared.ending.Role.{Role}
 use Rattle.diagnostics.specs.declared.ending.Role.TheVariants as roles
-use Rattle.diagnostics.specs.Layers.{of_mesh_text, of_problem_text}
+use Rattle.run_texts.specs.Endings.{of_mesh_text, of_problem_text}
 use Rattle.diagnostics.specs.Stages.{Then, stops, goes}
 use Rattle.run_texts.specs.Texts.{Texts, text_limit, size_limit, StandsUnder, ProblemStands, AreTextsOf, TextFor, MeshIn, ProblemIn, MeshOf, ProblemOf, ReadTexts}
 use Rattle.run_texts.specs.Read.{SourceRead}

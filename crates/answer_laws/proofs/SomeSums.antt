@@ -18,13 +18,14 @@ use Rattle.run_words.specs.declared.options.Mode.{Mode}
 use Rattle.run_words.specs.declared.options.Mode.TheVariants as modes
 use Rattle.run_words.specs.Choice.{Choice, Output}
 use Rattle.diagnostics.specs.declared.refusal.Refusal.TheVariants as refusals
+use Rattle.system_texts.specs.Endings.{of_local}
 use Rattle.system_texts.specs.Sums.{IsOrderOf, SummedIn, Summed}
 use Rattle.system_texts.specs.Texts.{first_target, sum_targets, TextsOf, SystemTexts}
 use Rattle.answer_laws.proofs.Steps.{HasAnOutcome, some_after}
 
 summed_in : (order : List ℕ) (digits : ℕ) (s : MeshProblem) (sum : Result (List Row) Failure) → SumIs digits (pattern_of s) (parts_of s order) sum → HasAnOutcome (SummedIn order digits s)
 summed_in order digits s (Ok rows) is = (Ok rows, is)
-summed_in order digits s (Err (Local cell fault)) is = (Err (refusals.Local cell fault), (faults.Local cell fault, is, refl))
+summed_in order digits s (Err (Local cell fault)) is = (Err (refusals.Local cell (of_local fault)), (faults.Local cell fault, is, refl))
 summed_in order digits s (Err (Sum cell row)) is = (Err (refusals.Sum cell row), (faults.Sum cell row, is, refl))
 
 -- sums in this order are those of the mode

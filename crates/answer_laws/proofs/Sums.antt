@@ -21,7 +21,7 @@ use Rattle.run_words.specs.declared.options.Mode.TheVariants as modes
 use Rattle.diagnostics.specs.declared.refusal.Refusal.{Refusal}
 use Rattle.diagnostics.specs.declared.ending.Ending.{Ending}
 use Rattle.diagnostics.specs.declared.ending.Ending.TheVariants.{Refused, NoMemory}
-use Rattle.diagnostics.specs.Layers.{of_sum}
+use Rattle.system_texts.specs.Endings.{of_sum}
 use Rattle.diagnostics.specs.Stages.{Says}
 use Rattle.system_texts.specs.Sums.{IsColoringOf, IsOrderOf, SummedIn, SummedBy, HasNoSums, Summed}
 use Rattle.system_laws.specs.Same.{IsSameSystem}

@@ -2,14 +2,14 @@
 use Rattle.std.specs.Prelude.{◌≡◌, ◌≢◌, ◌⊎◌, ℕ, ◌<◌, ◌-◌, ◌^◌, List, Bool, false, Some, None, Ok, Err}
 use Rattle.std.specs.declared.option.Option.{Option}
 use Rattle.std.specs.declared.result.Result.{Result}
-use Rattle.fem_text.specs.declared.counts.Counts.{Counts}
 use Rattle.fem_text.specs.Outside.{Held}
 use Rattle.run_words.specs.declared.options.Mode.{Mode}
+use Rattle.run_words.specs.Choice.{Choice}
 use Rattle.run_outputs.specs.Targets.{Target, after_targets}
 use Rattle.diagnostics.specs.declared.refusal.Refusal.{Refusal}
 use Rattle.diagnostics.specs.Lines.{status_of, refusal_line, TookLine}
-use Rattle.assemble_core.specs.Answer.{Answers, AreRefused}
-use Rattle.assemble_core.specs.Run.{Outside, IsRun, ReadsWell, IsUntouched, after_reads}
+use Rattle.assemble_core.specs.Answer.{Asked, Answers, AreRefused}
+use Rattle.assemble_core.specs.Run.{Outside, IsRun, IsUntouched, after_reads, after_source}
 use Rattle.answer_laws.specs.Laws.{ReadNothing}
 
 -- the texts of what the words ask for are told: the store tells what it holds, or none of them is read
@@ -22,11 +22,12 @@ pub record IsTheAnswer (takes : Mode → Bool) (words : List (List ℕ)) (holds 
   pub answers : Answers takes words holds answer
   pub only : (other : Result (List Target) Refusal) → Answers takes words holds other → other ≡ answer
 
--- these texts were written and nothing else, no call failed, and nothing was put to the diagnostics
+-- after all reads that the words name these texts were written and nothing else, no call failed, and nothing was put to the
+-- diagnostics
 pub record Wrote (takes : Mode → Bool) (words : List (List ℕ)) (before now : Outside) (targets : List Target) : Type 0 where
-  pub reads : Counts
-  pub reads_well : ReadsWell takes words before.world.store reads
-  pub written : now.world ≡ after_targets (after_reads before.world reads) targets
+  pub choice : Choice
+  pub asked : Asked takes words (Ok choice)
+  pub written : now.world ≡ after_targets (after_source before.world choice.source) targets
   pub told : now.told ≡ before.told
   pub tells : now.tells ≡ before.tells
 

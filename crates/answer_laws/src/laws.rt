@@ -27,8 +27,8 @@ pub fn words_without_texts_have_one_answer()
 }
 
 /// Over a store that tells what it holds, and for words that read no text over each store: where words and texts define
-/// texts, a run is no refusal. Its status is 0 and it wrote those texts and nothing else, or its status is 10, 11 or 12,
-/// since a read, a write or a put failed or memory ran out.
+/// texts, a run is no refusal. Its status is 0, and after all reads that the words name it wrote those texts and nothing
+/// else; or its status is 10, 11 or 12, since a read, a write or a put failed or memory ran out.
 pub fn defined_texts_are_written()
     ensures { DefinedTextsAreWritten }
 {
@@ -47,8 +47,8 @@ pub fn a_defined_refusal_is_told()
 }
 
 /// Over such stores and for such words the status of a run tells the answer of its words and texts: with status 0 the
-/// only answer is the texts that were written, and with each status but 0, 10, 11 and 12 it is a refusal with this
-/// status, whose line the diagnostics took, or a prefix of it where they failed.
+/// only answer is the texts that were written, after all reads that the words name, and with each status but 0, 10, 11
+/// and 12 it is a refusal with this status, whose line the diagnostics took, or a prefix of it where they failed.
 pub fn a_status_tells_the_answer()
     ensures written { ZeroTellsTheTexts }
     ensures refused { OthersTellTheRefusal }

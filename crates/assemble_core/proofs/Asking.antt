@@ -1,5 +1,5 @@
 -- Words that are refused.
-use Rattle.std.proofs.Common.{◌≡◌, ap, sym, ◌∙◌, ℕ, List, Bool, true, false}
+use Rattle.std.proofs.Common.{◌≡◌, ap, ◌∙◌, ℕ, List, Bool, false}
 use Rattle.run_words.specs.declared.options.Mode.{Mode}
 use Rattle.run_words.specs.Choice.{Choice}
 use Rattle.run_words.specs.Words.{AskFor, AskForNothing}

@@ -1,22 +1,23 @@
 -- How runs end.
-use Rattle.std.proofs.Common.{◌≡◌, ◌∙◌, sym, ap, refl, subst, ℕ, List, Bool, true, false, inl, inr, map, length, ◌≤◌}
-use Rattle.std.specs.Prelude.{Some, None, Ok, Err, IfOk, IfErr, OnOk, ◌⊎◌}
+use Rattle.std.proofs.Common.{◌≡◌, ◌∙◌, sym, ap, refl, subst, ℕ, List, Bool, inl, inr, length, ◌≤◌, arith}
+use Rattle.std.specs.Prelude.{Ok, Err, IfOk, IfErr, OnOk}
 use Rattle.std.specs.declared.option.Option.{Option}
 use Rattle.std.specs.declared.result.Result.{Result}
 use Rattle.fem_fixed.specs.Mesh.{Mesh}
 use Rattle.fem_text.specs.declared.counts.Counts.{Counts}
+use Rattle.fem_text.specs.Counts.{after_good}
 use Rattle.fem_text.specs.Outside.{Held}
 use Rattle.problem_read.specs.Entries.{ProblemParts}
 use Rattle.run_words.specs.declared.options.Mode.{Mode}
-use Rattle.run_words.specs.Choice.{Choice}
-use Rattle.run_texts.specs.Read.{SourceRead, EndsReading, GoesOnTo, CallsEnd, names_in, is_read_fault}
+use Rattle.run_words.specs.Choice.{Choice, Source}
+use Rattle.run_texts.specs.Read.{SourceRead, EndsReading, ReadsMade, names_in}
 use Rattle.run_outputs.specs.Targets.{Target, World, after_targets}
 use Rattle.run_outputs.specs.Stops.{StopsAmong}
 use Rattle.diagnostics.specs.declared.refusal.Refusal.{Refusal}
 use Rattle.diagnostics.specs.declared.refusal.Refusal.TheVariants.{Words}
 use Rattle.diagnostics.specs.declared.ending.Ending.{Ending}
 use Rattle.diagnostics.specs.declared.ending.Ending.TheVariants.{Refused, ReadFault, WriteFault, NoMemory}
-use Rattle.diagnostics.specs.Stages.{Then, stops, goes, EndsIn}
+use Rattle.diagnostics.specs.Stages.{stops, goes, EndsIn}
 use Rattle.system_setup.specs.SetUp.{IsSetUp}
 use Rattle.system_texts.specs.Sums.{Summed}
 use Rattle.system_texts.specs.Texts.{AreTargets}
@@ -24,8 +25,8 @@ use Rattle.sparsity.specs.declared.rows.Row.{Row}
 use Rattle.mesh_loop.specs.Setup.{MeshProblem, pattern_of}
 use Rattle.std.specs.List.{concat}
 use Rattle.assemble_core.proofs.Setups.{few_entries}
-use Rattle.assemble_core.specs.Answer.{interior_of, Asked, Assembled, Defines, Answers}
-use Rattle.assemble_core.specs.Run.{Prepared, EndsDefining, ReadsWell, after_reads, IsUntouched, IsReadFault, IsWritten, StopsWriting, Leaves}
+use Rattle.assemble_core.specs.Answer.{interior_of, Asked, Defines, Answers}
+use Rattle.assemble_core.specs.Run.{Prepared, EndsDefining, after_source, Leaves}
 
 -- the reading ends the making of the texts
 pub read_defining : (holds : Option Held) (choice : Choice) (e : Ending) → EndsReading holds choice.source e → EndsDefining holds choice e
@@ -76,22 +77,27 @@ pub want_defining : {X : Type 0} (holds : Option Held) (choice : Choice) (result
 want_defining holds choice (Ok x) h = tt
 want_defining holds choice (Err e) h = subst (EndsDefining holds choice) (sym h) tt
 
--- a step without a read ends behind reads that went well
-pub calls_behind : (X : Type 0) {Y : Type 0} (step : Result Y Refusal → Type 0) (most : ℕ) (e : Ending) (before now : Counts) → EndsIn step e → CallsEnd most false before now →
-    CallsEnd most (is_read_fault {X = X} (Err e)) before now
-calls_behind X step most (Refused refusal) before now h well = well
-calls_behind X step most (ReadFault role) before now h well = absurd h
-calls_behind X step most (WriteFault output) before now h well = well
-calls_behind X step most NoMemory before now h well = well
+-- all reads of a source are some of them
+some_are_all : (source : Source) → names_in source ≤ names_in source
+some_are_all source = omega arith
 
-pub result_calls : {X Y : Type 0} (step : Result Y Refusal → Type 0) (most : ℕ) (result : Result X Ending) (before now : Counts) → IfErr result (EndsIn step) → CallsEnd most false before now →
-    CallsEnd most (is_read_fault result) before now
-result_calls {X} step most (Ok value) before now h well = well
-result_calls {X} step most (Err e) before now h well = calls_behind X step most e before now h well
+-- a step without a read ends behind all reads
+pub reads_behind : (X : Type 0) {Y : Type 0} (step : Result Y Refusal → Type 0) (source : Source) (e : Ending) (before now : Counts) → EndsIn step e → now ≡ after_good (names_in source) before →
+    ReadsMade {X = X} source (Err e) before now
+reads_behind X step source (Refused refusal) before now h well = (names_in source, some_are_all source, well)
+reads_behind X step source (ReadFault role) before now h well = absurd h
+reads_behind X step source (WriteFault output) before now h well = (names_in source, some_are_all source, well)
+reads_behind X step source NoMemory before now h well = (names_in source, some_are_all source, well)
 
-pub want_calls : {X : Type 0} (most : ℕ) (result : Result X Ending) (before now : Counts) → IfErr result (λ e. e ≡ NoMemory) → CallsEnd most false before now → CallsEnd most (is_read_fault result) before now
-want_calls {X} most (Ok value) before now h well = well
-want_calls {X} most (Err e) before now h well = subst (λ e. CallsEnd most (is_read_fault {X = X} (Err e)) before now) (sym h) well
+pub result_reads : {X Y : Type 0} (step : Result Y Refusal → Type 0) (source : Source) (result : Result X Ending) (before now : Counts) → IfErr result (EndsIn step) →
+    now ≡ after_good (names_in source) before → ReadsMade source result before now
+result_reads {X} step source (Ok value) before now h well = well
+result_reads {X} step source (Err e) before now h well = reads_behind X step source e before now h well
+
+pub want_reads : {X : Type 0} (source : Source) (result : Result X Ending) (before now : Counts) → IfErr result (λ e. e ≡ NoMemory) → now ≡ after_good (names_in source) before →
+    ReadsMade source result before now
+want_reads {X} source (Ok value) before now h well = well
+want_reads {X} source (Err e) before now h well = subst (λ e. ReadsMade {X = X} source (Err e) before now) (sym h) (names_in source, some_are_all source, well)
 
 -- the words are refused
 pub words_leave : (takes : Mode → Bool) (words : List (List ℕ)) (before : World) → Asked takes words (Err Words) → Leaves takes words before before (Err (Refused Words))
@@ -105,7 +111,7 @@ same_world holds holds_now taken store out same = ap (λ h. world_of h taken sto
 
 -- the making of the texts ends the run
 pub defining_leaves : (X : Type 0) (takes : Mode → Bool) (words : List (List ℕ)) (choice : Choice) (holds holds_now : Option Held) (taken : Option (List ℕ)) (store store_now out : Counts) (e : Ending) →
-    Asked takes words (Ok choice) → EndsDefining holds choice e → holds_now ≡ holds → CallsEnd (names_in choice.source) (is_read_fault {X = X} (Err e)) store store_now →
+    Asked takes words (Ok choice) → EndsDefining holds choice e → holds_now ≡ holds → ReadsMade {X = X} choice.source (Err e) store store_now →
     Leaves takes words (world_of holds taken store out) (world_of holds_now taken store_now out) (Err e)
 defining_leaves X takes words choice holds holds_now taken store store_now out (Refused refusal) asked h same calls =
     (goes choice asked h, record { reads = inr (choice, asked, calls); same = same_world holds holds_now taken store_now out same })
@@ -115,25 +121,30 @@ defining_leaves X takes words choice holds holds_now taken store store_now out (
 defining_leaves X takes words choice holds holds_now taken store store_now out NoMemory asked h same calls =
     inl (choice, asked, record { reads = inr (choice, asked, calls); same = same_world holds holds_now taken store_now out same })
 
-writing_leaves : (takes : Mode → Bool) (words : List (List ℕ)) (before now : World) (reads : Counts) (targets : List Target) (e : Ending) → Answers takes words before.holds (Ok targets) →
-    ReadsWell takes words before.store reads → StopsAmong targets (after_reads before reads) now e → Leaves takes words before now (Err e)
-writing_leaves takes words before now reads targets (Refused refusal) answer well stop = absurd stop.stops
-writing_leaves takes words before now reads targets (ReadFault role) answer well stop = absurd stop.stops
-writing_leaves takes words before now reads targets (WriteFault output) answer well stop = record { targets = targets; answer = answer; reads = reads; reads_well = well; stops = stop }
-writing_leaves takes words before now reads targets NoMemory answer well stop = inr (record { targets = targets; answer = answer; reads = reads; reads_well = well; stops = stop })
+writing_leaves : (takes : Mode → Bool) (words : List (List ℕ)) (choice : Choice) (before now : World) (targets : List Target) (e : Ending) → Asked takes words (Ok choice) →
+    Answers takes words before.holds (Ok targets) → StopsAmong targets (after_source before choice.source) now e → Leaves takes words before now (Err e)
+writing_leaves takes words choice before now targets (Refused refusal) asked answer stop = absurd stop.stops
+writing_leaves takes words choice before now targets (ReadFault role) asked answer stop = absurd stop.stops
+writing_leaves takes words choice before now targets (WriteFault output) asked answer stop = record { choice = choice; asked = asked; targets = targets; answer = answer; stops = stop }
+writing_leaves takes words choice before now targets NoMemory asked answer stop = inr (record { choice = choice; asked = asked; targets = targets; answer = answer; stops = stop })
+
+-- the outside after the reads
+read_world : (source : Source) (holds holds_read : Option Held) (taken : Option (List ℕ)) (store reads out : Counts) → holds_read ≡ holds → reads ≡ after_good (names_in source) store →
+    world_of holds_read taken reads out ≡ after_source (world_of holds taken store out) source
+read_world source holds holds_read taken store reads out same well = same_world holds holds_read taken reads out same ∙ ap (λ c. world_of holds taken c out) well
 
 -- the writing ends the run
 pub written_leaves : (takes : Mode → Bool) (words : List (List ℕ)) (choice : Choice) (holds holds_read : Option Held) (taken : Option (List ℕ)) (store reads out : Counts) (now : World) (targets : List Target)
-    (result : Result Unit Ending) → Asked takes words (Ok choice) → Defines holds choice (Ok targets) → holds_read ≡ holds → CallsEnd (names_in choice.source) false store reads →
+    (result : Result Unit Ending) → Asked takes words (Ok choice) → Defines holds choice (Ok targets) → holds_read ≡ holds → reads ≡ after_good (names_in choice.source) store →
     OnOk result (now ≡ after_targets (world_of holds_read taken reads out) targets) → IfErr result (StopsAmong targets (world_of holds_read taken reads out) now) →
     Leaves takes words (world_of holds taken store out) now result
-written_leaves takes words choice holds holds_read taken store reads out now targets (Ok unit) asked defines same calls all stop = record {
+written_leaves takes words choice holds holds_read taken store reads out now targets (Ok unit) asked defines same well all stop = record {
+  choice = choice;
+  asked = asked;
   targets = targets;
   answer = goes choice asked defines;
-  reads = reads;
-  reads_well = inr (choice, asked, calls);
-  written = all ∙ ap (λ world. after_targets world targets) (same_world holds holds_read taken reads out same);
+  written = all ∙ ap (λ world. after_targets world targets) (read_world choice.source holds holds_read taken store reads out same well);
 }
-written_leaves takes words choice holds holds_read taken store reads out now targets (Err e) asked defines same calls all stop =
-    writing_leaves takes words (world_of holds taken store out) now reads targets e (goes choice asked defines) (inr (choice, asked, calls))
-    (subst (λ world. StopsAmong targets world now e) (same_world holds holds_read taken reads out same) stop)
+written_leaves takes words choice holds holds_read taken store reads out now targets (Err e) asked defines same well all stop =
+    writing_leaves takes words choice (world_of holds taken store out) now targets e asked (goes choice asked defines)
+    (subst (λ world. StopsAmong targets world now e) (read_world choice.source holds holds_read taken store reads out same well) stop)

@@ -1,6 +1,6 @@
 -- A set-up has a pattern within its limit.
-use Rattle.std.proofs.Common.{◌≡◌, ◌≤◌, ℕ, List, length, subst, sym}
-use Rattle.std.specs.Prelude.{Ok, Err}
+use Rattle.std.proofs.Common.{◌≤◌, length}
+use Rattle.std.specs.Prelude.{Ok}
 use Rattle.std.specs.declared.result.Result.{Result}
 use Rattle.std.specs.List.{concat}
 use Rattle.fem_fixed.specs.Mesh.{Mesh}
@@ -8,7 +8,7 @@ use Rattle.problem_read.specs.Entries.{ProblemParts}
 use Rattle.mesh_visits.specs.declared.flags.Interior.{Interior}
 use Rattle.mesh_loop.specs.Setup.{MeshProblem, pattern_of}
 use Rattle.diagnostics.specs.Stages.{Then, stops, goes}
-use Rattle.system_setup.specs.SetUp.{PatternedFor, SetUpOn, IsSetUp}
+use Rattle.system_setup.specs.SetUp.{IsSetUp}
 use Rattle.diagnostics.specs.declared.refusal.Refusal.{Refusal}
 
 -- the last step of two that go well

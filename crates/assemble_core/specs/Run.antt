@@ -1,5 +1,5 @@
 -- What a run leaves, and its status.
-use Rattle.std.specs.Prelude.{◌≡◌, ◌⊎◌, ℕ, List, [], ◌∷◌, Bool, ◌==◌, true, false, Some, None, Ok, Err}
+use Rattle.std.specs.Prelude.{◌≡◌, ◌⊎◌, ℕ, List, [], ◌∷◌, Bool, ◌==◌, true, Ok, Err}
 use Rattle.std.specs.declared.option.Option.{Option}
 use Rattle.std.specs.declared.result.Result.{Result}
 use Rattle.std.specs.List.{list_any}
@@ -7,14 +7,14 @@ use Rattle.fem_fixed.specs.Mesh.{Mesh}
 use Rattle.mesh_loop.specs.Setup.{MeshProblem}
 use Rattle.problem_read.specs.Entries.{ProblemParts}
 use Rattle.fem_text.specs.declared.counts.Counts.{Counts}
+use Rattle.fem_text.specs.Counts.{after_call, after_good}
 use Rattle.fem_text.specs.Outside.{Held}
 use Rattle.run_words.specs.declared.options.Mode.{Mode}
-use Rattle.run_words.specs.Choice.{Choice}
-use Rattle.run_texts.specs.Read.{SourceRead, GoesOnTo, CallsEnd, names_in}
+use Rattle.run_words.specs.Choice.{Choice, Source}
+use Rattle.run_texts.specs.Read.{SourceRead, GoesOnTo, SomeRead, names_in, reads_before}
 use Rattle.run_outputs.specs.Targets.{Target, World, after_targets}
 use Rattle.run_outputs.specs.Stops.{StopsAmong}
 use Rattle.diagnostics.specs.declared.ending.Role.{Role}
-use Rattle.diagnostics.specs.declared.ending.Output.{Output}
 use Rattle.diagnostics.specs.declared.ending.Ending.{Ending}
 use Rattle.diagnostics.specs.declared.ending.Ending.TheVariants.{Refused, ReadFault, WriteFault, NoMemory}
 use Rattle.diagnostics.specs.Lines.{ending_status, ending_line, TookLine}
@@ -32,42 +32,47 @@ EndsDefining holds choice (ReadFault role) = GoesOnTo holds choice.source role
 EndsDefining holds choice (WriteFault output) = ⊥
 EndsDefining holds choice NoMemory = Unit {0}
 
--- no more reads than the words name texts were made, none where they are refused, and all went well
+-- some of the reads that the words name were made, none where they are refused, and all went well
 abbrev pub ReadsWell : (Mode → Bool) → List (List ℕ) → Counts → Counts → Type 0
-ReadsWell takes words before now = (now ≡ before) ⊎ ((choice : Choice) × Asked takes words (Ok choice) × CallsEnd (names_in choice.source) false before now)
+ReadsWell takes words before now = (now ≡ before) ⊎ ((choice : Choice) × Asked takes words (Ok choice) × SomeRead choice.source before now)
 
 -- the same outside, with these counts of the store
 abbrev pub after_reads : World → Counts → World
 after_reads before reads = record { holds = before.holds; taken = before.taken; store = reads; out = before.out }
+
+-- the same outside, after all reads that a source names, each of which went well
+abbrev pub after_source : World → Source → World
+after_source before source = after_reads before (after_good (names_in source) before.store)
 
 -- nothing was written or put, and no call failed
 pub record IsUntouched (takes : Mode → Bool) (words : List (List ℕ)) (before now : World) : Type 0 where
   pub reads : ReadsWell takes words before.store now.store
   pub same : now ≡ after_reads before now.store
 
--- the last read failed, nothing is refused before it, and nothing was written or put
+-- the read of this text failed, behind those before it, which went well; nothing is refused before it, and nothing was
+-- written or put
 pub record IsReadFault (takes : Mode → Bool) (words : List (List ℕ)) (before now : World) (role : Role) : Type 0 where
   pub choice : Choice
   pub asked : Asked takes words (Ok choice)
   pub goes_on : GoesOnTo before.holds choice.source role
-  pub reads : CallsEnd (names_in choice.source) true before.store now.store
+  pub reads : now.store ≡ after_call true (after_good (reads_before role) before.store)
   pub same : now ≡ after_reads before now.store
 
--- what the words define was written, and nothing else
+-- all reads that the words name went well, and what they define was written, and nothing else
 pub record IsWritten (takes : Mode → Bool) (words : List (List ℕ)) (before now : World) : Type 0 where
+  pub choice : Choice
+  pub asked : Asked takes words (Ok choice)
   pub targets : List Target
   pub answer : Answers takes words before.holds (Ok targets)
-  pub reads : Counts
-  pub reads_well : ReadsWell takes words before.store reads
-  pub written : now ≡ after_targets (after_reads before reads) targets
+  pub written : now ≡ after_targets (after_source before choice.source) targets
 
--- the writing of what the words define stopped so
+-- all reads that the words name went well, and the writing of what they define stopped so
 pub record StopsWriting (takes : Mode → Bool) (words : List (List ℕ)) (before now : World) (ending : Ending) : Type 0 where
+  pub choice : Choice
+  pub asked : Asked takes words (Ok choice)
   pub targets : List Target
   pub answer : Answers takes words before.holds (Ok targets)
-  pub reads : Counts
-  pub reads_well : ReadsWell takes words before.store reads
-  pub stops : StopsAmong targets (after_reads before reads) now ending
+  pub stops : StopsAmong targets (after_source before choice.source) now ending
 
 -- what a run of these words leaves by its end: all is written; the words define a refusal; a read failed; a write
 -- failed; or memory ran out, before anything was written or in a write
@@ -84,6 +89,14 @@ pub record Outside : Type 0 where
   pub world : World
   pub told : Option (List ℕ)
   pub tells : Counts
+
+-- the outside of a store and two sinks, of which the second takes the diagnostics
+abbrev pub outside : {S K : Type 0} → (S → Option Held) → (S → Counts) → (K → Option (List ℕ)) → (K → Counts) → S → K → K → Outside
+outside holds counts taken puts store out err = record {
+  world = record { holds = holds store; taken = taken out; store = counts store; out = puts out };
+  told = taken err;
+  tells = puts err;
+}
 
 -- the diagnostics took the line of an end, or a prefix of it, and nothing where all is well
 abbrev pub Tells : Outside → Outside → Result Unit Ending → Type 0

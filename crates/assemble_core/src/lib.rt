@@ -8,4 +8,4 @@ mod top;
 mod work;
 
 pub use program::run_program;
-pub use top::{run, run_plain};
+pub use top::{run, run_chosen, run_plain};

@@ -1,9 +1,8 @@
 ghost use Rattle.std.specs.Prelude.{◌≡◌, true};
 ghost use Rattle.assemble_core.specs.Run.{is_status};
 
-use crate::{run, run_plain};
+use crate::run_chosen;
 use fem_text::{DiskStore, StdSink, Streams};
-use run_words::wants_wait;
 use scratch_pool::OpenGate;
 use std::alloc::Global;
 use std::env;
@@ -40,8 +39,5 @@ fn run_on_disk<R: Runtime + Threads + Wait + Sync + Streams>(
     let mut store = DiskStore::new(rt);
     let mut out = StdSink::new(rt, false);
     let mut err = StdSink::new(rt, true);
-    if wants_wait(words) {
-        return run(rt, alloc, words, &mut store, &mut out, &mut err, &OpenGate);
-    }
-    run_plain(rt, alloc, words, &mut store, &mut out, &mut err, &OpenGate)
+    run_chosen(rt, alloc, words, &mut store, &mut out, &mut err, &OpenGate)
 }

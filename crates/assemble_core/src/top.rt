@@ -1,12 +1,13 @@
 ghost use Rattle.std.specs.Prelude.{◌≡◌, map, string_bytes};
 ghost use Rattle.assemble_core.specs.Modes.{plain_modes, all_modes};
-ghost use Rattle.assemble_core.specs.Run.{Leaves, IsRun};
+ghost use Rattle.assemble_core.specs.Run.{Leaves, IsRun, outside};
 
 use crate::ask::{all_options, plain_options};
 use crate::work::{all_targets, plain_targets};
 use diagnostics::{Ending, Refusal};
 use fem_text::{Sink, Store};
 use run_outputs::write_targets;
+use run_words::{ordered_is_named, wants_wait};
 use scratch_pool::Gate;
 use std::alloc::Global;
 use std::rt::Runtime;
@@ -23,7 +24,7 @@ use std::thread::Threads;
 /// | Status | Where |
 /// |---|---|
 /// | 2 | the words ask for nothing |
-/// | 10 | a read failed |
+/// | 10 | a read failed, that of the text in the line |
 /// | 17 | the store tells that a text is absent |
 /// | 9 | a text, a count, a level, the cells or the entries pass their limit |
 /// | 3 | the mesh text has another fault |
@@ -35,7 +36,8 @@ use std::thread::Threads;
 /// | 11 | a write or a put failed: the texts before it are whole, and of it a part stands |
 /// | 12 | memory ran out: nothing is written, or the first of two texts alone |
 ///
-/// With each status but 0 one line goes to `err`, last. With a status other than 0, 11 and 12 nothing is written.
+/// With each status but 0 one line goes to `err`, last. With a status other than 0, 11 and 12 nothing is written, and with 0
+/// and 11 all texts that the words name were read.
 /// It always returns.
 pub fn run_plain<R: Runtime + Threads + Sync, S: Store, K: Sink, G: Gate + Sync>(
     rt: &R,
@@ -46,10 +48,7 @@ pub fn run_plain<R: Runtime + Threads + Sync, S: Store, K: Sink, G: Gate + Sync>
     err: &mut K,
     gate: &G,
 ) -> u8
-    ensures { IsRun plain_modes (map string_bytes words.now)
-        (record { world = record { holds = S.holds store.old; taken = K.taken out.old; store = S.counts store.old; out = K.counts out.old }; told = K.taken err.old; tells = K.counts err.old })
-        (record { world = record { holds = S.holds store.new; taken = K.taken out.new; store = S.counts store.new; out = K.counts out.new }; told = K.taken err.new; tells = K.counts err.new })
-        result }
+    ensures { IsRun plain_modes (map string_bytes words.now) (outside S.holds S.counts K.taken K.counts store.old out.old err.old) (outside S.holds S.counts K.taken K.counts store.new out.new err.new) result }
 {
     match plain_work(rt, alloc, words, store, out, gate) {
         Ok(()) => 0,
@@ -71,10 +70,7 @@ pub fn run<R: Runtime + Threads + Wait + Sync, S: Store, K: Sink, G: Gate + Sync
     err: &mut K,
     gate: &G,
 ) -> u8
-    ensures { IsRun all_modes (map string_bytes words.now)
-        (record { world = record { holds = S.holds store.old; taken = K.taken out.old; store = S.counts store.old; out = K.counts out.old }; told = K.taken err.old; tells = K.counts err.old })
-        (record { world = record { holds = S.holds store.new; taken = K.taken out.new; store = S.counts store.new; out = K.counts out.new }; told = K.taken err.new; tells = K.counts err.new })
-        result }
+    ensures { IsRun all_modes (map string_bytes words.now) (outside S.holds S.counts K.taken K.counts store.old out.old err.old) (outside S.holds S.counts K.taken K.counts store.new out.new err.new) result }
 {
     match work(rt, alloc, words, store, out, gate) {
         Ok(()) => 0,
@@ -83,6 +79,26 @@ pub fn run<R: Runtime + Threads + Wait + Sync, S: Store, K: Sink, G: Gate + Sync
             ending.status()
         }
     }
+}
+
+/// The program on any words: [`run`] where they name the mode `ordered`, and else [`run_plain`], which never waits. Both
+/// answer such words alike, so all that is said of [`run`] holds.
+pub fn run_chosen<R: Runtime + Threads + Wait + Sync, S: Store, K: Sink, G: Gate + Sync>(
+    rt: &R,
+    alloc: Global,
+    words: &[String],
+    store: &mut S,
+    out: &mut K,
+    err: &mut K,
+    gate: &G,
+) -> u8
+    ensures { IsRun all_modes (map string_bytes words.now) (outside S.holds S.counts K.taken K.counts store.old out.old err.old) (outside S.holds S.counts K.taken K.counts store.new out.new err.new) result }
+{
+    ordered_is_named();
+    if wants_wait(words) {
+        return run(rt, alloc, words, store, out, err, gate);
+    }
+    run_plain(rt, alloc, words, store, out, err, gate)
 }
 
 // Reads, assembles and writes.

@@ -4,7 +4,7 @@ ghost use Rattle.ucd_read.specs.Bounds.{IsBounded};
 ghost use Rattle.mesh_loop.specs.Setup.{pattern_of};
 ghost use Rattle.run_words.specs.Choice.{seen};
 ghost use Rattle.run_words.specs.Ranges.{IsWithinRanges};
-ghost use Rattle.run_texts.specs.Read.{CallsEnd, names_in, is_read_fault};
+ghost use Rattle.run_texts.specs.Read.{ReadsMade};
 ghost use Rattle.run_outputs.specs.Targets.{seen_target};
 ghost use Rattle.diagnostics.specs.Stages.{EndsIn};
 ghost use Rattle.system_setup.specs.SetUp.{IsSetUp};
@@ -42,7 +42,7 @@ pub(crate) fn plain_targets<'a, R: Threads + Sync, S: Store, G: Gate + Sync>(
     ensures ok { IfOk result (λ targets. Defines (S.holds store.old) (seen options.now) (Ok (map seen_target targets.items))) }
     ensures ends { IfErr result (EndsDefining (S.holds store.old) (seen options.now)) }
     ensures same { S.holds store.new ≡ S.holds store.old }
-    ensures calls { CallsEnd (names_in (seen options.now).source) (is_read_fault result) (S.counts store.old) (S.counts store.new) }
+    ensures calls { ReadsMade (seen options.now).source result (S.counts store.old) (S.counts store.new) }
 {
     let setup = match prepare(rt, alloc, options, store) {
         Ok(setup) => setup,
@@ -67,7 +67,7 @@ pub(crate) fn all_targets<'a, R: Threads + Wait + Sync, S: Store, G: Gate + Sync
     ensures ok { IfOk result (λ targets. Defines (S.holds store.old) (seen options.now) (Ok (map seen_target targets.items))) }
     ensures ends { IfErr result (EndsDefining (S.holds store.old) (seen options.now)) }
     ensures same { S.holds store.new ≡ S.holds store.old }
-    ensures calls { CallsEnd (names_in (seen options.now).source) (is_read_fault result) (S.counts store.old) (S.counts store.new) }
+    ensures calls { ReadsMade (seen options.now).source result (S.counts store.old) (S.counts store.new) }
 {
     let setup = match prepare(rt, alloc, options, store) {
         Ok(setup) => setup,
@@ -92,7 +92,7 @@ fn prepare<R: Threads + Sync, S: Store>(
     ensures few { IfOk result (λ setup. length (concat (pattern_of setup)) ≤ 33554432) }
     ensures ends { IfErr result (EndsDefining (S.holds store.old) (seen options.now)) }
     ensures same { S.holds store.new ≡ S.holds store.old }
-    ensures calls { CallsEnd (names_in (seen options.now).source) (is_read_fault result) (S.counts store.old) (S.counts store.new) }
+    ensures calls { ReadsMade (seen options.now).source result (S.counts store.old) (S.counts store.new) }
 {
     let (parts, problem) = match read_source(alloc, options.source, store) {
         Ok(read) => read,

@@ -1,21 +1,19 @@
 -- Numbers of the code that fit their types, and what couples with what.
-use Rattle.std.proofs.Common.{◌≡◌, ◌∙◌, sym, ap, refl, subst, ℕ, zero, suc, ◌<◌, ◌≤◌, ◌^◌, ℤ, pos, negsuc, of_z, Bool, true, false, cond, List, [], ◌∷◌, ◌++◌, length, map, FitsSigned, w64, lit<, arith, Some, None, slice_index, slice_index_or}
+use Rattle.std.proofs.Common.{◌≡◌, ◌∙◌, sym, ap, refl, subst, ℕ, zero, suc, ◌<◌, ◌≤◌, ◌^◌, ℤ, pos, negsuc, of_z, Bool, false, cond, List, [], ◌∷◌, ◌++◌, length, map, FitsSigned, w64, lit<, arith, Some, None, slice_index, slice_index_or}
 use Rattle.std.specs.Prelude.{unsigned_abs}
 use Rattle.std.specs.Int.{w128}
 use Rattle.std.specs.List.{All, flat_map}
-use Rattle.std.specs.declared.option.Option.{Option}
 use Rattle.std.proofs.lemmas.Int.{fits_signed_from_abs}
 use Rattle.std.proofs.lemmas.List.{get_or_default, append-nil}
 use Rattle.fem_fixed.proofs.Sizes.{size_fits}
 use Rattle.affine_constraints.specs.declared.term.Term.{Term}
-use Rattle.affine_constraints.specs.Lines.{AffineLine, Lines, IsTerm}
+use Rattle.affine_constraints.specs.Lines.{AffineLine, Lines}
 use Rattle.local_blocks.specs.Blocks.{LocalBlock}
-use Rattle.serial_sum.specs.declared.part.Contribution.{Contribution}
 use Rattle.serial_sum.specs.declared.part.Target.TheVariants.{Column, RightSide}
 use Rattle.block_sums.specs.Masters.{masters, masters_by, constant_of, itself, Couples, Holds, IsMasterFor}
-use Rattle.block_sums.specs.Contributions.{to, is_zero, column_terms, constant_terms, master_terms, row_terms, own_by, own_terms, dof_at, entry_at}
+use Rattle.block_sums.specs.Contributions.{to, is_zero, column_terms, constant_terms, master_terms, row_terms, own_terms, dof_at, entry_at}
 use Rattle.block_sums.specs.Shares.{entry_share, constant_share}
-use Rattle.block_sums.specs.Adding.{CouplesAll, IsWeight}
+use Rattle.block_sums.specs.Adding.{CouplesAll}
 
 pub fits_weight : (a : ℤ) → unsigned_abs a ≤ 2 ^ 31 → FitsSigned w64 a
 fits_weight a h = fits_signed_from_abs w64 a (omega (arith, h))
@@ -72,9 +70,6 @@ free_couples pattern lines row dof e h =
 pub line_couples : (pattern : List (List ℕ)) (lines : Lines) (row dof : ℕ) (line : AffineLine) → lines dof ≡ Some line → CouplesAll pattern row (masters lines dof) → CouplesAll pattern row line.terms
 line_couples pattern lines row dof line e h = subst (CouplesAll pattern row) (line_masters lines dof line e) h
 
-pub term_weights : (size : ℕ) (terms : List Term) → All (IsTerm size) terms → All IsWeight terms
-term_weights size terms h k d l = (h k d l).weight
-
 -- a master of one of the dofs
 pub master_for : (pattern : List (List ℕ)) (lines : Lines) (dofs : List ℕ) (i k : ℕ) (d : Term) → Holds pattern lines dofs → i < length dofs → k < length (masters lines (slice_index dofs i)) →
     IsMasterFor pattern lines dofs (slice_index_or (masters lines (slice_index dofs i)) k d)
@@ -96,9 +91,6 @@ line_masters_for pattern lines dofs i dof line h a d e k t b =
     let are : masters lines (slice_index dofs i) ≡ line.terms = ap (masters lines) (sym d) ∙ line_masters lines dof line e in
     let P : List Term → Type 0 = λ ms. IsMasterFor pattern lines dofs (slice_index_or ms k t) in
     subst P are (master_for pattern lines dofs i k t h a (rw are b))
-
-pub own_couples : (pattern : List (List ℕ)) (lines : Lines) (dofs : List ℕ) (i dof : ℕ) → Holds pattern lines dofs → i < length dofs → dof ≡ slice_index dofs i → Couples pattern dof dof
-own_couples pattern lines dofs i dof h a d = let P : ℕ → Type 0 = λ n. Couples pattern n n in subst P (sym d) (h.own i 0 a)
 
 pub same_term : (terms : List Term) (k : ℕ) (d e : Term) → k < length terms → slice_index_or terms k d ≡ slice_index_or terms k e
 same_term terms k d e h = get_or_default terms k d e h

@@ -1,15 +1,12 @@
 -- Contributions added to rows.
-use Rattle.std.specs.Prelude.{◌≡◌, ℕ, ◌<◌, ◌≤◌, ◌^◌, ◌∷◌, [], List, All, fold, length, ℤ, unsigned_abs}
+use Rattle.std.specs.Prelude.{◌≡◌, ℕ, ◌≤◌, ◌^◌, List, All, fold, unsigned_abs}
 use Rattle.std.specs.declared.option.Option.{Option}
 use Rattle.affine_constraints.specs.declared.term.Term.{Term}
-use Rattle.affine_constraints.specs.Lines.{lines_in}
-use Rattle.local_blocks.specs.Blocks.{LocalBlock, IsBlock}
-use Rattle.serial_sum.specs.Columns.{AreRising}
 use Rattle.serial_sum.specs.Rows.{Run, one, IsFor, FitsRows}
 use Rattle.serial_sum.specs.declared.part.Contribution.{Contribution}
 use Rattle.sparsity.specs.declared.rows.Row.{Row}
 use Rattle.block_sums.specs.declared.system.System.{System}
-use Rattle.block_sums.specs.Masters.{Couples, Holds, masters}
+use Rattle.block_sums.specs.Masters.{Couples}
 
 abbrev pub run_of : List Row → Option ℕ → Run
 run_of rows least = record { rows = rows; least = least }

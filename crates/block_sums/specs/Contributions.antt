@@ -1,5 +1,5 @@
 -- The contributions of a block to the rows of a system, in units of 2^-32.
-use Rattle.std.specs.Prelude.{◌≡◌, ℕ, ◌^◌, ◌==◌, Bool, true, false, List, [], ◌∷◌, ◌++◌, length, map, slice_index, slice_index_or, ℤ, pos, negsuc, neg_ℤ, ◌*ℤ◌, unsigned_abs, nat_eq, if◌then◌else◌, Some, None}
+use Rattle.std.specs.Prelude.{ℕ, ◌==◌, Bool, List, [], ◌∷◌, ◌++◌, length, map, slice_index, slice_index_or, ℤ, pos, unsigned_abs, if◌then◌else◌, Some, None}
 use Rattle.std.specs.declared.option.Option.{Option}
 use Rattle.std.specs.List.{flat_map, range_with_len}
 use Rattle.affine_constraints.specs.declared.term.Term.{Term}

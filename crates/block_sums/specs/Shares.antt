@@ -1,5 +1,5 @@
 -- Shares of local entries, in units of 2^-32, each with one rounding.
-use Rattle.std.specs.Prelude.{ℕ, ◌^◌, ℤ, pos, ◌-ℤ◌, ◌*ℤ◌}
+use Rattle.std.specs.Prelude.{◌^◌, ℤ, pos, ◌-ℤ◌, ◌*ℤ◌}
 use Rattle.fem_fixed.specs.Rounding.{nearest}
 
 -- a share of a load: the weight is in ticks

@@ -35,6 +35,7 @@ pub fn add_block(rows: &mut Rows, system: &System, block: &Block, least: Option<
 }
 
 /// Adds the contributions of a local row.
+#[inline(always)]
 fn add_row(
     rows: &mut Rows,
     system: &System,
@@ -67,6 +68,7 @@ fn add_row(
 }
 
 /// Adds a local row on these masters.
+#[inline(never)]
 fn add_masters(
     rows: &mut Rows,
     system: &System,
@@ -124,6 +126,7 @@ fn add_master(
 /// Adds the size of a local diagonal entry to the diagonal of a constrained dof, and what belongs to it to the
 /// right side.
 #[tactic(auto, using(crate::proofs::Runs::both_add))]
+#[inline(never)]
 fn add_own(
     rows: &mut Rows,
     system: &System,
@@ -156,6 +159,7 @@ fn add_own(
 
 /// Adds a contribution. The least failing row so far comes in and goes out.
 #[tactic(auto, using(crate::proofs::Runs::put_adds))]
+#[inline(always)]
 fn put(rows: &mut Rows, system: &System, given: Contribution, least: Option<u32>) -> Option<u32>
     requires digits { system.now.digits ≤ 64 }
     requires fits { FitsRows system.now.pattern.now rows.old }
@@ -167,6 +171,7 @@ fn put(rows: &mut Rows, system: &System, given: Contribution, least: Option<u32>
 }
 
 /// The lower of the least failing row so far and this row, where a sum failed there.
+#[inline(always)]
 fn lower(added: bool, least: Option<u32>, row: u32) -> Option<u32>
     ensures { result ≡ least_after added least row }
 {
@@ -180,6 +185,7 @@ fn lower(added: bool, least: Option<u32>, row: u32) -> Option<u32>
 }
 
 /// Adds a local entry on one master of its row, spread over the masters of its column's dof.
+#[inline(always)]
 fn add_column(
     rows: &mut Rows,
     system: &System,
@@ -214,6 +220,7 @@ fn add_column(
 }
 
 /// Adds a local entry on one master of its row and on these masters of its column's dof.
+#[inline(never)]
 fn add_terms(
     rows: &mut Rows,
     system: &System,
@@ -244,6 +251,7 @@ fn add_terms(
 
 /// Adds what the constant of a column's dof gives to the right side of a row.
 #[tactic(auto, using(crate::proofs::Runs::none_adds))]
+#[inline(never)]
 fn add_constant(
     rows: &mut Rows,
     system: &System,

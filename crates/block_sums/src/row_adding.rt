@@ -38,6 +38,7 @@ pub fn add_block_to_row(row: &mut Row, system: &System, i: u32, block: &Block, a
 }
 
 /// Adds what a local row gives to row i.
+#[inline(always)]
 fn add_local_row(row: &mut Row, system: &System, i: u32, block: &Block, k: usize, all: bool) -> bool
     requires digits { system.now.digits ≤ 64 }
     requires fits { FitsRow (columns_at system.now.pattern.now i) row.old }
@@ -64,6 +65,7 @@ fn add_local_row(row: &mut Row, system: &System, i: u32, block: &Block, k: usize
 }
 
 /// Adds a local row where row i is among these masters.
+#[inline(never)]
 fn add_masters(
     row: &mut Row,
     system: &System,
@@ -90,6 +92,7 @@ fn add_masters(
 }
 
 /// Adds a local row where row i is this master; no product is formed where it isn't.
+#[inline(always)]
 fn add_where_master(
     row: &mut Row,
     system: &System,
@@ -115,6 +118,7 @@ fn add_where_master(
 }
 
 /// Adds what belongs to a constrained dof's own diagonal where row i is this dof.
+#[inline(never)]
 fn add_where_own(
     row: &mut Row,
     system: &System,
@@ -169,6 +173,7 @@ fn add_master(
 
 /// Adds the size of a local diagonal entry to the diagonal of a constrained dof's row, and what belongs to it to
 /// the right side.
+#[inline(never)]
 fn add_own(
     row: &mut Row,
     system: &System,
@@ -200,6 +205,7 @@ fn add_own(
 }
 
 /// Adds a contribution to its row. Whether all was added so far comes in and goes out.
+#[inline(always)]
 fn put(row: &mut Row, system: &System, given: Contribution, all: bool) -> bool
     requires digits { system.now.digits ≤ 64 }
     requires fits { FitsRow (columns_at system.now.pattern.now given.row) row.old }
@@ -212,6 +218,7 @@ fn put(row: &mut Row, system: &System, given: Contribution, all: bool) -> bool
 }
 
 /// Whether all was added so far, and this was too.
+#[inline(always)]
 fn both(all: bool, added: bool) -> bool
     ensures { result ≡ (all && added) }
 {
@@ -219,6 +226,7 @@ fn both(all: bool, added: bool) -> bool
 }
 
 /// Adds a local entry to the row of one of its row's masters, spread over the masters of its column's dof.
+#[inline(always)]
 fn add_column(
     row: &mut Row,
     system: &System,
@@ -253,6 +261,7 @@ fn add_column(
 }
 
 /// Adds a local entry to the row of one of its row's masters, on these masters of its column's dof.
+#[inline(never)]
 fn add_terms(
     row: &mut Row,
     system: &System,
@@ -283,6 +292,7 @@ fn add_terms(
 
 /// Adds what the constant of a column's dof gives to the right side of the row.
 #[tactic(auto, using(crate::proofs::RowRuns::none_adds))]
+#[inline(never)]
 fn add_constant(
     row: &mut Row,
     system: &System,

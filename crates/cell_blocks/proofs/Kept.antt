@@ -1,5 +1,6 @@
 -- Blocks in the copy object.
-use Rattle.std.proofs.Common.{◌≡◌, ◌∙◌, sym, ap, refl, subst, ℕ, zero, suc, ◌+◌, ◌<◌, ◌≤◌, List, [], ◌∷◌, ◌++◌, length, map, take, set, get_or, Ok, Err, Some, None, arith, length-append}
+use Rattle.std.proofs.Common.{◌≡◌, ◌∙◌, sym, ap, refl, subst, ℕ, zero, suc, ◌+◌, ◌<◌, ◌≤◌, List, [], ◌∷◌, ◌++◌, length, map, take, set, get_or, Bool, true, false, Ok, Err, Some, None, arith, length-append}
+use Rattle.std.specs.Prelude.{IfOk}
 use Rattle.std.specs.List.{All}
 use Rattle.std.specs.declared.option.Option.{Option}
 use Rattle.std.specs.declared.result.Result.{Result}
@@ -10,7 +11,7 @@ use Rattle.local_blocks.specs.Blocks.{LocalBlock, IsBlock, seen}
 use Rattle.local_blocks.specs.declared.block.Block.{Block}
 use Rattle.mesh_visits.specs.declared.visit.Visit.{Visit}
 use Rattle.cell_blocks.specs.Blocks.{Given, block_of, blocks_of, all_blocks, in_front}
-use Rattle.cell_blocks.specs.Visited.{IsBlockResult, HasRoom, with_block, IsSoFar, seen_copy}
+use Rattle.cell_blocks.specs.Visited.{IsBlockResult, HasRoom, Takes, with_block, IsSoFar, seen_copy}
 
 pub put_blocks : (items : List Block) (used : ℕ) (block : Block) → used < length items → All IsBlock (map seen (take used items)) → IsBlock (seen block) → All IsBlock (map seen (take (used + 1) (set items used block)))
 put_blocks items used block h all one =
@@ -55,32 +56,62 @@ pub none_so_far : (given : Given) (cell : ℕ) (visits : List Visit) → IsSoFar
 unfolding blocks_of
 none_so_far given cell visits = record { blocks = []; are = refl; count_is = refl; first = refl }
 
-pub one_more : (given : Given) (cell : ℕ) (visits : List Visit) (k : ℕ) (visit : Visit) (copy now : Result (List LocalBlock) LocalFault) (made : Block) → k < length visits → visit ≡ get_or visits k visit →
-    IsSoFar given cell visits k copy → IsBlockResult (block_of given cell visit) (Ok made) → now ≡ with_block copy (seen made) → IsSoFar given cell visits (k + 1) now
+took_block : (r : Result LocalBlock LocalFault) (old now : Result (List LocalBlock) LocalFault) (took : Bool) → Takes r old now took → took ≡ true → (block : LocalBlock) × ((r ≡ Ok block) × (now ≡ with_block old block))
+took_block (Ok block) old now took h e = (block, (refl, h.1))
+took_block (Err fault) old now took h e = absurd (let no : true ≡ false = sym e ∙ h.0 in cc no)
+
+took_fault : (r : Result LocalBlock LocalFault) (old now : Result (List LocalBlock) LocalFault) (took : Bool) → Takes r old now took → took ≡ false → (fault : LocalFault) × ((r ≡ Err fault) × (now ≡ Err fault))
+took_fault (Ok block) old now took h e = absurd (let no : true ≡ false = sym h.0 ∙ e in cc no)
+took_fault (Err fault) old now took h e = (fault, (refl, h.1))
+
+pub takes_made : (r : Result LocalBlock LocalFault) (made : Block) (old now : Result (List LocalBlock) LocalFault) → IsBlockResult r (Ok made) → now ≡ with_block old (seen made) → Takes r old now true
+takes_made (Ok block) made old now h e = (refl, e ∙ ap (with_block old) h.0)
+takes_made (Err fault) made old now h e = absurd h
+
+pub takes_fault : (r : Result LocalBlock LocalFault) (told : LocalFault) (old now : Result (List LocalBlock) LocalFault) → IsBlockResult r (Err told) → now ≡ Err told → Takes r old now false
+takes_fault (Ok block) told old now h e = absurd h
+takes_fault (Err fault) told old now h e = (refl, e ∙ ap Err h)
+
+pub made_is_block : (r : Result LocalBlock LocalFault) (made : Result Block LocalFault) → IsBlockResult r made → IfOk made (λ block. IsBlock (seen block))
+made_is_block (Ok block) (Ok made) h = subst IsBlock (sym h.0) h.1
+made_is_block (Ok block) (Err told) h = absurd h
+made_is_block (Err fault) (Ok made) h = absurd h
+made_is_block (Err fault) (Err told) h = tt
+
+pub one_more : (given : Given) (cell : ℕ) (visits : List Visit) (k : ℕ) (visit : Visit) (copy now : Result (List LocalBlock) LocalFault) (took : Bool) → k < length visits → visit ≡ get_or visits k visit →
+    IsSoFar given cell visits k copy → Takes (block_of given cell visit) copy now took → took ≡ true → IsSoFar given cell visits (k + 1) now
 unfolding blocks_of
-one_more given cell visits k visit copy now made h e s r n =
-    let is = (ok_result (block_of given cell visit) made r).0 in
-    let list : map (block_of given cell) (take (k + 1) visits) ≡ map (block_of given cell) (take k visits) ++ Ok (seen made) ∷ [] =
+one_more given cell visits k visit copy now took h e s r t =
+    let block : LocalBlock = (took_block (block_of given cell visit) copy now took r t).0 in
+    let is : block_of given cell visit ≡ Ok block = (took_block (block_of given cell visit) copy now took r t).1.0 in
+    let n : now ≡ with_block copy block = (took_block (block_of given cell visit) copy now took r t).1.1 in
+    let list : map (block_of given cell) (take (k + 1) visits) ≡ map (block_of given cell) (take k visits) ++ Ok block ∷ [] =
     ap (map (block_of given cell)) (take_more visits k visit h) ∙ map-append (block_of given cell) (take k visits) (get_or visits k visit ∷ [])
     ∙ ap (λ v. map (block_of given cell) (take k visits) ++ block_of given cell v ∷ []) (sym e) ∙ ap (λ b. map (block_of given cell) (take k visits) ++ b ∷ []) is in
     record {
-      blocks = s.blocks ++ seen made ∷ [];
-      are = n ∙ ap (λ c. with_block c (seen made)) s.are;
-      count_is = (let c = s.count_is in length-append s.blocks (seen made ∷ []) ∙ omega (arith, c));
-      first = ap all_blocks list ∙ more_ok (map (block_of given cell) (take k visits)) (seen made) s.blocks s.first;
+      blocks = s.blocks ++ block ∷ [];
+      are = n ∙ ap (λ c. with_block c block) s.are;
+      count_is = (let c = s.count_is in length-append s.blocks (block ∷ []) ∙ omega (arith, c));
+      first = ap all_blocks list ∙ more_ok (map (block_of given cell) (take k visits)) block s.blocks s.first;
     }
 
 pub failed : (given : Given) (cell : ℕ) (visits : List Visit) (k : ℕ) (visit : Visit) (copy : Result (List LocalBlock) LocalFault) (fault : LocalFault) → k < length visits → visit ≡ get_or visits k visit →
-    IsSoFar given cell visits k copy → IsBlockResult (block_of given cell visit) (Err fault) → Err fault ≡ blocks_of given cell visits
+    IsSoFar given cell visits k copy → block_of given cell visit ≡ Err fault → Err fault ≡ blocks_of given cell visits
 unfolding blocks_of
-failed given cell visits k visit copy fault h e s r =
-    let is = err_result (block_of given cell visit) fault r in
+failed given cell visits k visit copy fault h e s is =
     let parts = split_at visits k visit h in
     let list : map (block_of given cell) visits ≡ map (block_of given cell) (take k visits) ++ Err fault ∷ map (block_of given cell) parts.0 =
     ap (map (block_of given cell)) parts.1 ∙ map-append (block_of given cell) (take k visits) (get_or visits k visit ∷ parts.0)
     ∙ ap (λ v. map (block_of given cell) (take k visits) ++ block_of given cell v ∷ map (block_of given cell) parts.0) (sym e)
     ∙ ap (λ b. map (block_of given cell) (take k visits) ++ b ∷ map (block_of given cell) parts.0) is in
     sym (ap all_blocks list ∙ more_err (map (block_of given cell) (take k visits)) (map (block_of given cell) parts.0) fault s.blocks s.first)
+
+pub not_taken : (given : Given) (cell : ℕ) (visits : List Visit) (k : ℕ) (visit : Visit) (copy now : Result (List LocalBlock) LocalFault) (took : Bool) → k < length visits → visit ≡ get_or visits k visit →
+    IsSoFar given cell visits k copy → Takes (block_of given cell visit) copy now took → took ≡ false → now ≡ blocks_of given cell visits
+not_taken given cell visits k visit copy now took h e s r t =
+    let fault : LocalFault = (took_fault (block_of given cell visit) copy now took r t).0 in
+    let is : block_of given cell visit ≡ Err fault = (took_fault (block_of given cell visit) copy now took r t).1.0 in
+    (took_fault (block_of given cell visit) copy now took r t).1.1 ∙ failed given cell visits k visit copy fault h e s is
 
 pub all_done : (given : Given) (cell : ℕ) (visits : List Visit) (k : ℕ) (copy : Result (List LocalBlock) LocalFault) → length visits ≤ k → IsSoFar given cell visits k copy → copy ≡ blocks_of given cell visits
 all_done given cell visits k copy h s = s.are ∙ sym s.first ∙ ap (blocks_of given cell) (take_all k visits h)

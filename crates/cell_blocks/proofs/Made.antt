@@ -1,8 +1,7 @@
 -- Blocks that the code makes.
-use Rattle.std.proofs.Common.{◌≡◌, ◌∙◌, sym, ap, refl, subst, ℕ, zero, suc, ◌<◌, ◌≤◌, ◌^◌, ℤ, pos, FitsSigned, w64, List, [], ◌++◌, length, get_or, Ok, Err, Some, None, arith, lit≤}
+use Rattle.std.proofs.Common.{◌≡◌, ◌∙◌, sym, ap, refl, subst, ℕ, zero, suc, ◌<◌, ◌≤◌, ◌^◌, ℤ, pos, FitsSigned, w64, List, [], length, get_or, Ok, Err, Some, None, arith, lit≤}
 use Rattle.std.specs.Prelude.{unsigned_abs}
 use Rattle.std.specs.List.{All}
-use Rattle.std.specs.declared.option.Option.{Option}
 use Rattle.std.specs.declared.result.Result.{Result}
 use Rattle.std.proofs.lemmas.List.{get_or_default}
 use Rattle.std.proofs.lemmas.Int.{fits_signed_from_abs}
@@ -10,9 +9,9 @@ use Rattle.fem_fixed.specs.declared.mesh.Point.{Point}
 use Rattle.fem_fixed.specs.Mesh.{IsWithinReach}
 use Rattle.fixed_q1.specs.declared.fault.LocalFault.{LocalFault}
 use Rattle.fixed_q1.specs.declared.geometry.Vector.{Vector}
-use Rattle.fixed_q1.specs.LocalForm.{LocalForm, zero_matrix, zero_load}
+use Rattle.fixed_q1.specs.LocalForm.{LocalForm, zero_load}
 use Rattle.fixed_q1.specs.CellForm.{cell_form}
-use Rattle.fixed_q1.specs.BoundaryForm.{boundary_form, end_numbers}
+use Rattle.fixed_q1.specs.BoundaryForm.{boundary_form}
 use Rattle.fixed_q1.specs.JumpForm.{jump_form, part_numbers}
 use Rattle.fixed_q1.proofs.Bounds.{form_small, form_square, form_load}
 use Rattle.fixed_q1.proofs.Loads.{load_small}
@@ -21,9 +20,9 @@ use Rattle.fixed_q1.specs.declared.places.Part.{Part}
 use Rattle.fixed_q1.specs.Places.{reference_place}
 use Rattle.problem_read.specs.LookUps.{diffusion_on, source_on, robin_on, penalty_in}
 use Rattle.mesh_visits.specs.declared.visit.Visit.TheVariants.{Boundary as OnBoundary}
-use Rattle.cell_blocks.specs.Blocks.{Given, material_of, points_of, dofs_of, end_points, end_dofs, part_ends, face_form, own_form, part_form, with_dofs, block_of}
+use Rattle.cell_blocks.specs.Blocks.{Given, material_of, points_of, end_points, end_dofs, part_ends, face_form, own_form, part_form, with_dofs, block_of}
 use Rattle.cell_blocks.specs.Visited.{IsBlockResult}
-use Rattle.local_blocks.specs.Blocks.{LocalBlock, IsBlock, seen}
+use Rattle.local_blocks.specs.Blocks.{IsBlock, seen}
 use Rattle.local_blocks.specs.declared.block.Block.{Block}
 
 -- a form over so many dofs

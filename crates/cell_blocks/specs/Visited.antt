@@ -1,5 +1,5 @@
 -- Visits that can be made.
-use Rattle.std.specs.Prelude.{◌≡◌, ℕ, ◌<◌, ◌≤◌, List, [], ◌∷◌, ◌++◌, All, length, take, map, Ok, Err}
+use Rattle.std.specs.Prelude.{◌≡◌, ℕ, ◌<◌, List, [], ◌∷◌, ◌++◌, length, take, map, Bool, true, false, Ok, Err}
 use Rattle.std.specs.declared.option.Option.{Option}
 use Rattle.std.specs.declared.option.Option.TheVariants.{Some, None}
 use Rattle.std.specs.declared.result.Result.{Result}
@@ -28,6 +28,11 @@ HasRoom (Err fault) = ⊥
 abbrev pub with_block : Result (List LocalBlock) LocalFault → LocalBlock → Result (List LocalBlock) LocalFault
 with_block (Ok blocks) block = Ok (blocks ++ block ∷ [])
 with_block (Err fault) block = Err fault
+
+-- a block is put behind the others, or its fault stands in their place; told is whether there was a block
+abbrev pub Takes : Result LocalBlock LocalFault → Result (List LocalBlock) LocalFault → Result (List LocalBlock) LocalFault → Bool → Type 0
+Takes (Ok block) old now took = (took ≡ true) × (now ≡ with_block old block)
+Takes (Err fault) old now took = (took ≡ false) × (now ≡ Err fault)
 
 abbrev pub fault_in : Result (List LocalBlock) LocalFault → Option LocalFault
 fault_in (Ok blocks) = None

@@ -75,6 +75,7 @@ impl CellCopy {
     }
 
     /// Puts a block behind the others.
+    #[inline(always)]
     pub(crate) fn put(&mut self, block: Block)
         requires room { HasRoom self.old }
         requires block { IsBlock (seen block) }

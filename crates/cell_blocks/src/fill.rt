@@ -1,13 +1,15 @@
-ghost use Rattle.std.specs.Prelude.{◌≡◌, ◌<◌, ◌≤◌, ◌^◌, ◌++◌, All, length, unsigned_abs, Ok};
+ghost use Rattle.std.specs.Prelude.{◌≡◌, ◌<◌, ◌≤◌, ◌^◌, ◌++◌, All, length, unsigned_abs, Ok, IfOk};
+ghost use Rattle.std.specs.declared.result.Result.{Result};
+ghost use Rattle.fixed_q1.specs.declared.fault.LocalFault.{LocalFault};
 ghost use Rattle.fem_fixed.specs.Mesh.{IsWithinReach};
 ghost use Rattle.fixed_q1.specs.declared.places.Part.{Part};
 ghost use Rattle.fixed_q1.specs.BoundaryForm.{boundary_form};
-ghost use Rattle.local_blocks.specs.Blocks.{seen, IsBlock};
+ghost use Rattle.local_blocks.specs.Blocks.{LocalBlock, seen, IsBlock};
 ghost use Rattle.dof_numbers.specs.Dofs.{IsNumberingOf};
 ghost use Rattle.mesh_visits.specs.Within.{IsVisitWithin};
 ghost use Rattle.cell_blocks.specs.Blocks as blocks;
 ghost use Rattle.cell_blocks.specs.Blocks.{blocks_of, block_of};
-ghost use Rattle.cell_blocks.specs.Visited.{IsBlockResult};
+ghost use Rattle.cell_blocks.specs.Visited.{IsBlockResult, HasRoom, Takes};
 ghost use Rattle.cell_blocks.specs.Views.{given};
 
 use crate::copy::{CellCopy, CellScratch};
@@ -34,31 +36,29 @@ pub fn fill_blocks(
 {
     copy.clear();
     for visit in visits {
-        match visit_block(setting, cell, *visit, scratch) {
-            Ok(block) => copy.put(block),
-            Err(fault) => {
-                copy.fail(fault);
-                return;
-            }
+        if !put_visit(setting, cell, *visit, scratch, copy) {
+            return;
         }
     }
 }
 
-/// The block of a visit.
-fn visit_block(
+/// Puts the block of a visit behind the others, or leaves its fault in their place. Whether there was a block.
+fn put_visit(
     setting: &Setting,
     cell: u32,
     visit: Visit,
     scratch: &mut CellScratch,
-) -> Result<Block, LocalFault>
+    copy: &mut CellCopy,
+) -> bool
     requires numbered { IsNumberingOf setting.now.forest.now setting.now.dofs.now }
     requires cell { cell < length setting.now.forest.now.cells }
     requires visit { IsVisitWithin setting.now.forest.now visit }
-    ensures { IsBlockResult (block_of (given setting.now) cell visit) result }
+    requires room { HasRoom copy.old }
+    ensures { Takes (block_of (given setting.now) cell visit) copy.old copy.new result }
 {
     match visit {
-        Visit::Cell => own_block(setting, cell, scratch),
-        Visit::Boundary { face, id } => Ok(face_block(setting, cell, face, id)),
+        Visit::Cell => put_result(copy, own_block(setting, cell, scratch)),
+        Visit::Boundary { face, id } => put_result(copy, Ok(face_block(setting, cell, face, id))),
         Visit::Interior {
             face,
             other,
@@ -76,12 +76,34 @@ fn visit_block(
                 face: other_face,
                 part: there,
             };
-            part_block(setting, mine, theirs, scratch)
+            put_result(copy, part_block(setting, mine, theirs, scratch))
+        }
+    }
+}
+
+/// Puts a block behind the others, or leaves a fault in their place. Whether there was a block.
+///
+/// Each kind of block comes to a call of its own, so that only its own numbers are moved.
+#[inline(always)]
+fn put_result(copy: &mut CellCopy, made: Result<Block, LocalFault>) -> bool
+    requires room { HasRoom copy.old }
+    requires block { IfOk made (λ block. IsBlock (seen block)) }
+    ensures { (block : Result LocalBlock LocalFault) → IsBlockResult block made → Takes block copy.old copy.new result }
+{
+    match made {
+        Ok(block) => {
+            copy.put(block);
+            true
+        }
+        Err(fault) => {
+            copy.fail(fault);
+            false
         }
     }
 }
 
 /// The block of the cell itself.
+#[inline(always)]
 fn own_block(setting: &Setting, cell: u32, scratch: &mut CellScratch) -> Result<Block, LocalFault>
     requires numbered { IsNumberingOf setting.now.forest.now setting.now.dofs.now }
     requires cell { cell < length setting.now.forest.now.cells }
@@ -102,7 +124,7 @@ fn own_block(setting: &Setting, cell: u32, scratch: &mut CellScratch) -> Result<
         &mut load,
     ) {
         Ok(()) => Ok(Block::Cell {
-            dofs: setting.dofs.of_cell(cell),
+            dofs: setting.cell_dofs(cell),
             matrix,
             load,
         }),
@@ -111,6 +133,7 @@ fn own_block(setting: &Setting, cell: u32, scratch: &mut CellScratch) -> Result<
 }
 
 /// The block of a face at the boundary: zeros where nothing is set on its id.
+#[inline(always)]
 fn face_block(setting: &Setting, cell: u32, face: u8, id: u32) -> Block
     requires numbered { IsNumberingOf setting.now.forest.now setting.now.dofs.now }
     requires cell { cell < length setting.now.forest.now.cells }
@@ -125,6 +148,7 @@ fn face_block(setting: &Setting, cell: u32, face: u8, id: u32) -> Block
 }
 
 /// The block of a face with `alpha u` added and data g, both in ticks.
+#[inline(always)]
 fn robin_block(dofs: [u32; 2], ends: &[Point; 2], alpha: i64, g: i64) -> Block
     requires ends { All IsWithinReach ends.now }
     requires alpha { unsigned_abs alpha ≤ 2 ^ 31 }
@@ -147,6 +171,7 @@ struct Side {
 }
 
 /// The block of a part of an interior face.
+#[inline(never)]
 fn part_block(
     setting: &Setting,
     here: Side,
@@ -173,10 +198,7 @@ fn part_block(
         &mut matrix,
     ) {
         Ok(()) => Ok(Block::Part {
-            dofs: both_dofs(
-                setting.dofs.of_cell(here.cell),
-                setting.dofs.of_cell(there.cell),
-            ),
+            dofs: both_dofs(setting.cell_dofs(here.cell), setting.cell_dofs(there.cell)),
             matrix,
             load: [0; 8],
         }),

@@ -5,8 +5,6 @@
 mod copy;
 mod fill;
 mod setting;
-#[cfg(test)]
-mod tests;
 
 pub use copy::{CellCopy, CellScratch};
 pub use fill::fill_blocks;

@@ -1,24 +1,37 @@
-ghost use Rattle.std.specs.Prelude.{◌≡◌, ◌<◌, All, length};
-ghost use Rattle.fem_fixed.specs.Mesh.{IsWithinReach};
+ghost use Rattle.std.specs.Prelude.{◌≡◌, ◌<◌};
 ghost use Rattle.corner_names.specs.Cells as cells;
-ghost use Rattle.cell_blocks.specs.Blocks as blocks;
-ghost use Rattle.cell_blocks.specs.Views.{given};
-ghost use Rattle.dof_numbers.specs.Dofs.{IsNumberingOf};
 
 use dof_numbers::Dofs;
 use fem_fixed::Point;
 use hanging_refine::Forest;
 use problem_read::Problem;
 
-/// What blocks are made of: a refined mesh, its dofs, and the coefficients of a problem.
+/// What blocks are made of: a refined mesh, its dofs of degree 1, and the coefficients of a problem.
 #[derive(Drop)]
 pub struct Setting<'a> {
     pub forest: &'a Forest,
     pub dofs: &'a Dofs,
     pub problem: &'a Problem,
+    ghost of_degree_one: { dofs.now.degree ≡ 1 },
 }
 
 impl Setting<'_> {
+    ghost use Rattle.std.specs.Prelude.{All, length};
+    ghost use Rattle.fem_fixed.specs.Mesh.{IsWithinReach};
+    ghost use Rattle.dof_numbers.specs.Dofs.{IsNumberingOf};
+    ghost use Rattle.cell_blocks.specs.Blocks as blocks;
+    ghost use Rattle.cell_blocks.specs.Views.{given};
+
+    /// The dofs of a cell.
+    pub fn cell_dofs(&self, cell: u32) -> [u32; 4]
+        requires numbered { IsNumberingOf self.now.forest.now self.now.dofs.now }
+        requires cell { cell < length self.now.forest.now.cells }
+        ensures { result ≡ blocks.dofs_of (given self.now) cell }
+    {
+        let dofs = self.dofs.of_cell(cell);
+        [dofs[0], dofs[1], dofs[2], dofs[3]]
+    }
+
     /// The points of the two ends of a face of a cell.
     pub fn end_points(&self, cell: u32, face: u8) -> [Point; 2]
         requires cell { cell < length self.now.forest.now.cells }
@@ -35,7 +48,7 @@ impl Setting<'_> {
         requires cell { cell < length self.now.forest.now.cells }
         ensures { result ≡ blocks.end_dofs (given self.now) cell face }
     {
-        let dofs = self.dofs.of_cell(cell);
+        let dofs = self.cell_dofs(cell);
         [dofs[first_vertex(face)], dofs[last_vertex(face)]]
     }
 }

@@ -1,9 +1,9 @@
 -- The lines of a colouring, one after another.
 use Rattle.std.proofs.Common.{◌≡◌, ◌∙◌, ap, sym, refl, ℕ, zero, suc, ◌+◌, List, [], ◌∷◌, ◌++◌, map, arith, append_assoc}
-use Rattle.std.specs.List.{flat_map, range_with_len}
+use Rattle.std.specs.List.{range_with_len}
 use Rattle.std.specs.Prelude.{slice_index, decimal, codes}
 use Rattle.std.proofs.lemmas.Grind.{common_steps}
-use Rattle.matrix_market.specs.Texts.{line_of, text_of}
+use Rattle.fem_text.specs.Written.{text_of}
 use Rattle.conflict_coloring.specs.Coloring.{Coloring, color_count}
 use Rattle.color_texts.specs.Text.{count_line, cell_line, cell_lines, text_before}
 

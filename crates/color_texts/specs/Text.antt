@@ -1,7 +1,7 @@
 -- The text of a colouring of cells.
-use Rattle.std.specs.Prelude.{ℕ, List, [], ◌∷◌, ◌++◌, codes, decimal, length, map, slice_index}
+use Rattle.std.specs.Prelude.{ℕ, List, [], ◌∷◌, codes, decimal, length, map, slice_index}
 use Rattle.std.specs.List.{range_with_len}
-use Rattle.matrix_market.specs.Texts.{line_of, text_of}
+use Rattle.fem_text.specs.Written.{line_of, text_of}
 use Rattle.conflict_coloring.specs.Coloring.{Coloring, color_count}
 
 -- how many colours there are

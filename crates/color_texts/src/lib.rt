@@ -1,8 +1,6 @@
 //! The text of a colouring: how many colours there are, and the zone and the colour of each cell.
 #![tactic(auto)]
 
-#[cfg(test)]
-mod tests;
 mod text;
 
 pub use text::colors_text;

@@ -1,5 +1,5 @@
 ghost use Rattle.std.specs.Prelude.{◌≡◌, ◌<◌, ◌∷◌, ◌++◌, [], length, map, decimal, IfOk, OnOk};
-ghost use Rattle.matrix_market.specs.Texts.{line_of, text_of};
+ghost use Rattle.fem_text.specs.Written.{line_of, text_of};
 ghost use Rattle.conflict_coloring.specs.Coloring.{IsColoring, color_count};
 ghost use Rattle.color_texts.specs.Text as written;
 

@@ -9,8 +9,6 @@ mod places;
 mod round;
 mod rule;
 mod steps;
-#[cfg(test)]
-mod tests;
 mod turn;
 mod view;
 

@@ -83,21 +83,3 @@ fn part<T>(items: &[T], start: usize, end: usize) -> &[T]
 {
     &items[start..end]
 }
-
-#[cfg(test)]
-mod tests {
-    use super::*;
-
-    #[test]
-    fn lists_come_back_as_they_were_added(rt: HostRuntime) -> Result<(), NoMemory> {
-        let mut lists = Lists::new(rt.alloc());
-        lists.push(&[4, 2])?;
-        lists.push(&[])?;
-        lists.push(&[7])?;
-        assert!(rt; lists.len() == 3);
-        assert_eq!(rt; lists.get(0), [4, 2].as_slice());
-        assert_eq!(rt; lists.get(1).len(), 0);
-        assert_eq!(rt; lists.get(2), [7].as_slice());
-        Ok(())
-    }
-}

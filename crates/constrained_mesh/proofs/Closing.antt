@@ -1,9 +1,8 @@
 -- Closing, after the lines of the mesh and of the constraints.
-use Rattle.std.proofs.Common.{◌≡◌, ◌∙◌, sym, ap, refl, subst, List, Ok, Err}
+use Rattle.std.proofs.Common.{◌≡◌, ◌∙◌, sym, ap, refl, subst, Ok, Err}
 use Rattle.std.specs.Prelude.{◌≢◌}
 use Rattle.std.specs.declared.result.Result.{Result}
 use Rattle.affine_constraints.specs.declared.fault.CloseFault.{CloseFault}
-use Rattle.affine_constraints.specs.declared.fault.CloseFault.TheVariants as close
 use Rattle.affine_constraints.specs.Lines.{lines_in}
 use Rattle.affine_constraints.specs.Closing.{AreClosedInRange, HaveFault}
 use Rattle.problem_read.specs.Entries.{ProblemParts}
@@ -17,7 +16,7 @@ use Rattle.constrained_mesh.specs.Constrained.{Answer, ClosesOrFails, IsConstrai
 
 -- the lines of the mesh, and what adding those of the constraints gave
 pub record AreAdded (nodes : Nodes) (problem : ProblemParts) (told : DofOf) (lines : Table) (outcome : Result Table ConstraintFault) : Type 0 where
-  pub of_mesh : AreMeshLines nodes.forest problem lines
+  pub of_mesh : AreMeshLines nodes.degree nodes.forest problem lines
   pub same : told ≡ dof_of_id nodes
   pub added : with_ties told lines problem.ties ≡ outcome
 

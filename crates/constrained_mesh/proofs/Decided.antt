@@ -1,5 +1,6 @@
 -- Whether a dof hangs: by what lies on the other sides of faces.
-use Rattle.std.proofs.Common.{◌≡◌, ◌∙◌, sym, ap, refl, subst, ℕ, zero, suc, ◌<◌, ◌≤◌, ◌⊎◌, inl, inr, ⊎_elim, length, slice_index, arith}
+use Rattle.std.proofs.Common.{◌≡◌, subst, ℕ, zero, suc, ◌<◌, ◌≤◌, ◌⊎◌, inl, inr, ⊎_elim, length, slice_index, arith}
+use Rattle.corner_names.specs.Names.{Name}
 use Rattle.corner_names.specs.Cells.{vertex, face_start, face_end, mid}
 use Rattle.corner_names.proofs.Across.{nat_decides, start_less, end_less}
 use Rattle.hanging_refine.specs.declared.sides.ActiveSide.{ActiveSide}
@@ -10,35 +11,14 @@ use Rattle.hanging_refine.specs.Numbered.{corner_name}
 use Rattle.hanging_refine.specs.Grown.{IsGrown}
 use Rattle.hanging_refine.specs.Sides.{IsSideOf, MeetsOnly}
 use Rattle.hanging_refine.proofs.OneSide.{covered_once}
-use Rattle.dof_numbers.specs.Dofs.{corner_dof}
-use Rattle.dof_numbers.specs.Hanging.{IsHanging}
-use Rattle.dof_numbers.proofs.Finer.{not_boundary, not_equal, not_coarser, one_dof}
-use Rattle.dof_numbers.proofs.Middles.{vertex_no_mid}
-use Rattle.mesh_visits.proofs.BySide.{is_cell}
+use Rattle.dof_numbers.specs.Dofs.{name_dof}
+use Rattle.dof_numbers.specs.Hanging.{IsHangingName, IsHanging, HangsSomewhere, hung_name}
+use Rattle.dof_numbers.proofs.Finer.{not_boundary, not_equal, not_coarser, name_hangs}
 use Rattle.constrained_mesh.specs.MeshLines.{HangsNowhere}
 
--- a corner of a cell at the middle of a face of another hangs
-hangs_at : (forest : RefinedMesh) → IsGrown forest → (c f y v : ℕ) → c < length forest.cells → f < 4 → y < length forest.cells → v < 4 → corner_name forest y v ≡ mid (corner_at forest.mesh) (cell_at forest c) f →
-    IsHanging forest (corner_dof forest y v) c f
-hangs_at forest g c f y v hc hf hy hv e = record {
-  name = corner_name forest y v;
-  hanging = record {
-    other = y;
-    v = v;
-    is_cell = hc;
-    is_face = hf;
-    is_other = hy;
-    is_vertex = hv;
-    apart = λ s. vertex_no_mid (length forest.mesh.cells) (corner_at forest.mesh) (cell_at forest c) (is_cell forest g c hc) v f hv hf (ap (λ i. corner_name forest i v) (sym s) ∙ e);
-    middle = e;
-    corner = refl;
-  };
-  is_dof = refl;
-}
-
--- the middle of the face hangs, or nothing does there
+-- the middle of the face is a vertex of another cell, or isn't
 abbrev pub AtFace : RefinedMesh → ℕ → ℕ → Type 0
-AtFace forest c f = ((dof : ℕ) × IsHanging forest dof c f) ⊎ ((dof : ℕ) → IsHanging forest dof c f → ⊥)
+AtFace forest c f = ((x : Name) × IsHangingName forest x c f) ⊎ ((x : Name) → IsHangingName forest x c f → ⊥)
 
 by_side : (forest : RefinedMesh) → IsGrown forest → (c f : ℕ) → c < length forest.cells → f < 4 → (side : ActiveSide) → IsSideOf forest c f side → MeetsOnly forest c f side → AtFace forest c f
 by_side forest g c f hc hf (Boundary id) is only = inr (not_boundary forest g c f id only)
@@ -49,56 +29,66 @@ by_side forest g c f hc hf (Finer js gs) is only =
     let m = corner_at forest.mesh in
     ⊎_elim
     (λ (s : (vertex m (cell_at forest y) (face_start h) ≡ vertex m (cell_at forest c) (face_start f)) × (vertex m (cell_at forest y) (face_end h) ≡ mid m (cell_at forest c) f)).
-    inl (corner_dof forest y (face_end h), hangs_at forest g c f y (face_end h) hc hf is.0 (end_less h is.2) s.1))
+    inl (corner_name forest y (face_end h), name_hangs forest g c f y (face_end h) hc hf is.0 (end_less h is.2) s.1))
     (λ (s : (vertex m (cell_at forest y) (face_start h) ≡ mid m (cell_at forest c) f) × (vertex m (cell_at forest y) (face_end h) ≡ vertex m (cell_at forest c) (face_start f))).
-    inl (corner_dof forest y (face_start h), hangs_at forest g c f y (face_start h) hc hf is.0 (start_less h is.2) s.0))
+    inl (corner_name forest y (face_start h), name_hangs forest g c f y (face_start h) hc hf is.0 (start_less h is.2) s.0))
     is.4.1
 
 at_face : (forest : RefinedMesh) → IsGrown forest → (c f : ℕ) → c < length forest.cells → f < 4 → AtFace forest c f
 at_face forest g c f hc hf = let w = covered_once forest g c f hc hf in by_side forest g c f hc hf w.side w.covered.says w.covered.only
 
--- the same of one dof
-abbrev pub DofAt : RefinedMesh → ℕ → ℕ → ℕ → Type 0
-DofAt forest dof c f = IsHanging forest dof c f ⊎ (IsHanging forest dof c f → ⊥)
+-- the dof hangs there with this number, or doesn't
+abbrev pub DofAt : ℕ → RefinedMesh → ℕ → ℕ → ℕ → ℕ → Type 0
+DofAt degree forest dof c f h = IsHanging degree forest dof c f h ⊎ (IsHanging degree forest dof c f h → ⊥)
 
-dof_at : (forest : RefinedMesh) → IsGrown forest → (dof c f : ℕ) → c < length forest.cells → f < 4 → DofAt forest dof c f
-dof_at forest g dof c f hc hf = ⊎_elim
-    (λ (t : (d : ℕ) × IsHanging forest d c f). ⊎_elim (λ (e : t.0 ≡ dof). inl (let P : ℕ → Type 0 = λ d. IsHanging forest d c f in subst P e t.1)) (λ (e : t.0 ≡ dof → ⊥). inr (λ h. e (one_dof forest t.0 dof c f t.1 h))) (nat_decides t.0 dof))
-    (λ (t : (d : ℕ) → IsHanging forest d c f → ⊥). inr (t dof))
+dof_at : (degree : ℕ) (forest : RefinedMesh) → IsGrown forest → (dof c f h : ℕ) → c < length forest.cells → f < 4 → h < degree → DofAt degree forest dof c f h
+dof_at degree forest g dof c f h hc hf hh = ⊎_elim
+    (λ (t : (x : Name) × IsHangingName forest x c f). ⊎_elim
+    (λ (e : dof ≡ name_dof degree forest (hung_name degree forest c f h)).
+    let R : DofAt degree forest dof c f h = inl (record { name = t.0; hanging = t.1; is_one = hh; is_dof = e }) in R)
+    (λ (e : dof ≡ name_dof degree forest (hung_name degree forest c f h) → ⊥). inr (λ (k : IsHanging degree forest dof c f h). e k.is_dof))
+    (nat_decides dof (name_dof degree forest (hung_name degree forest c f h))))
+    (λ (t : (x : Name) → IsHangingName forest x c f → ⊥). inr (λ (k : IsHanging degree forest dof c f h). t k.name k.hanging))
     (at_face forest g c f hc hf)
 
-abbrev pub Hangs : RefinedMesh → ℕ → Type 0
-Hangs forest dof = (c : ℕ) × ((f : ℕ) × IsHanging forest dof c f)
+less_suc : (a b : ℕ) → a < suc b → (a ≡ b → ⊥) → a < b
+less_suc a b h e = grind arith
+
+-- with the first numbers at a face
+first_numbers : (degree : ℕ) (forest : RefinedMesh) → IsGrown forest → (dof c f n : ℕ) → c < length forest.cells → f < 4 → n ≤ degree → HangsSomewhere degree forest dof ⊎ ((h : ℕ) → h < n → IsHanging degree forest dof c f h → ⊥)
+first_numbers degree forest g dof c f zero hc hf b = inr (λ h l k. omega arith)
+first_numbers degree forest g dof c f (suc n) hc hf b = ⊎_elim
+    (λ (t : IsHanging degree forest dof c f n). inl (record { c = c; f = f; h = n; hanging = t }))
+    (λ (t : IsHanging degree forest dof c f n → ⊥). ⊎_elim (λ (u : HangsSomewhere degree forest dof). inl u)
+    (λ (u : (h : ℕ) → h < n → IsHanging degree forest dof c f h → ⊥). inr (λ h l k. ⊎_elim
+    (λ (e : h ≡ n). t (let P : ℕ → Type 0 = λ x. IsHanging degree forest dof c f x in subst P e k)) (λ (e : h ≡ n → ⊥). u h (less_suc h n l e) k) (nat_decides h n)))
+    (first_numbers degree forest g dof c f n hc hf (omega (arith, b))))
+    (dof_at degree forest g dof c f n hc hf (omega (arith, b)))
 
 -- at the first faces of a cell
-first_faces : (forest : RefinedMesh) → IsGrown forest → (dof c n : ℕ) → c < length forest.cells → n ≤ 4 → Hangs forest dof ⊎ ((f : ℕ) → f < n → IsHanging forest dof c f → ⊥)
-first_faces forest g dof c zero hc h = inr (λ f b k. omega arith)
-first_faces forest g dof c (suc n) hc h = ⊎_elim
-    (λ (t : IsHanging forest dof c n). inl (c, (n, t)))
-    (λ (t : IsHanging forest dof c n → ⊥). ⊎_elim (λ (u : Hangs forest dof). inl u)
-    (λ (u : (f : ℕ) → f < n → IsHanging forest dof c f → ⊥). inr (λ f b k. ⊎_elim (λ (e : f ≡ n). t (let P : ℕ → Type 0 = λ x. IsHanging forest dof c x in subst P e k)) (λ (e : f ≡ n → ⊥). u f (below f n b e) k) (nat_decides f n)))
-    (first_faces forest g dof c n hc (omega (arith, h))))
-    (dof_at forest g dof c n hc (omega (arith, h)))
-  where
-    below : (a b : ℕ) → a < suc b → (a ≡ b → ⊥) → a < b
-    below a b h e = grind arith
+first_faces : (degree : ℕ) (forest : RefinedMesh) → IsGrown forest → (dof c n : ℕ) → c < length forest.cells → n ≤ 4 → HangsSomewhere degree forest dof ⊎ ((f h : ℕ) → f < n → IsHanging degree forest dof c f h → ⊥)
+first_faces degree forest g dof c zero hc b = inr (λ f h l k. omega arith)
+first_faces degree forest g dof c (suc n) hc b = ⊎_elim
+    (λ (t : HangsSomewhere degree forest dof). inl t)
+    (λ (t : (h : ℕ) → h < degree → IsHanging degree forest dof c n h → ⊥). ⊎_elim (λ (u : HangsSomewhere degree forest dof). inl u)
+    (λ (u : (f h : ℕ) → f < n → IsHanging degree forest dof c f h → ⊥). inr (λ f h l k. ⊎_elim
+    (λ (e : f ≡ n). t h k.is_one (let P : ℕ → Type 0 = λ x. IsHanging degree forest dof c x h in subst P e k)) (λ (e : f ≡ n → ⊥). u f h (less_suc f n l e) k) (nat_decides f n)))
+    (first_faces degree forest g dof c n hc (omega (arith, b))))
+    (first_numbers degree forest g dof c n degree hc (omega (arith, b)) (omega arith))
 
 -- at the faces of the first cells
-first_cells : (forest : RefinedMesh) → IsGrown forest → (dof n : ℕ) → n ≤ length forest.cells → Hangs forest dof ⊎ ((c f : ℕ) → c < n → IsHanging forest dof c f → ⊥)
-first_cells forest g dof zero h = inr (λ c f b k. omega arith)
-first_cells forest g dof (suc n) h = ⊎_elim
-    (λ (t : Hangs forest dof). inl t)
-    (λ (t : (f : ℕ) → f < 4 → IsHanging forest dof n f → ⊥). ⊎_elim (λ (u : Hangs forest dof). inl u)
-    (λ (u : (c f : ℕ) → c < n → IsHanging forest dof c f → ⊥). inr (λ c f b k. ⊎_elim
-    (λ (e : c ≡ n). t f k.hanging.is_face (let P : ℕ → Type 0 = λ x. IsHanging forest dof x f in subst P e k)) (λ (e : c ≡ n → ⊥). u c f (below c n b e) k) (nat_decides c n)))
-    (first_cells forest g dof n (omega (arith, h))))
-    (first_faces forest g dof n 4 (omega (arith, h)) (omega arith))
-  where
-    below : (a b : ℕ) → a < suc b → (a ≡ b → ⊥) → a < b
-    below a b h e = grind arith
+first_cells : (degree : ℕ) (forest : RefinedMesh) → IsGrown forest → (dof n : ℕ) → n ≤ length forest.cells → HangsSomewhere degree forest dof ⊎ ((c f h : ℕ) → c < n → IsHanging degree forest dof c f h → ⊥)
+first_cells degree forest g dof zero b = inr (λ c f h l k. omega arith)
+first_cells degree forest g dof (suc n) b = ⊎_elim
+    (λ (t : HangsSomewhere degree forest dof). inl t)
+    (λ (t : (f h : ℕ) → f < 4 → IsHanging degree forest dof n f h → ⊥). ⊎_elim (λ (u : HangsSomewhere degree forest dof). inl u)
+    (λ (u : (c f h : ℕ) → c < n → IsHanging degree forest dof c f h → ⊥). inr (λ c f h l k. ⊎_elim
+    (λ (e : c ≡ n). t f h k.hanging.is_face (let P : ℕ → Type 0 = λ x. IsHanging degree forest dof x f h in subst P e k)) (λ (e : c ≡ n → ⊥). u c f h (less_suc c n l e) k) (nat_decides c n)))
+    (first_cells degree forest g dof n (omega (arith, b))))
+    (first_faces degree forest g dof n 4 (omega (arith, b)) (omega arith))
 
 -- a dof hangs at a face, or nowhere
-pub hangs : (forest : RefinedMesh) → IsGrown forest → (dof : ℕ) → Hangs forest dof ⊎ HangsNowhere forest dof
-hangs forest g dof = ⊎_elim (λ (t : Hangs forest dof). inl t)
-    (λ (t : (c f : ℕ) → c < length forest.cells → IsHanging forest dof c f → ⊥). inr (λ c f k. t c f k.hanging.is_cell k))
-    (first_cells forest g dof (length forest.cells) (omega arith))
+pub hangs : (degree : ℕ) (forest : RefinedMesh) → IsGrown forest → (dof : ℕ) → HangsSomewhere degree forest dof ⊎ HangsNowhere degree forest dof
+hangs degree forest g dof = ⊎_elim (λ (t : HangsSomewhere degree forest dof). inl t)
+    (λ (t : (c f h : ℕ) → c < length forest.cells → IsHanging degree forest dof c f h → ⊥). inr (λ c f h k. t c f h k.hanging.is_cell k))
+    (first_cells degree forest g dof (length forest.cells) (omega arith))

@@ -1,17 +1,17 @@
 -- The least id decides.
 use Rattle.std.proofs.Common.{◌≡◌, ◌∙◌, sym, ap, refl, subst, ℕ, zero, suc, ◌+◌, ◌<◌, ◌≤◌, ◌⊎◌, inl, inr, ⊎_elim, Bool, true, false, ◌&&◌, cond, List, [], ◌∷◌, ◌++◌, length, map, arith}
-use Rattle.std.specs.Prelude.{Some, None, IsSome, is_some, fold, ◌↔◌}
+use Rattle.std.specs.Prelude.{Some, None, IsSome, is_some, fold}
 use Rattle.std.specs.declared.option.Option.{Option}
 use Rattle.std.specs.List.{filter, flat_map, range_with_len}
-use Rattle.std.proofs.lemmas.Bool.{cases_Bool, cases_lt}
+use Rattle.std.proofs.lemmas.Bool.{cases_lt}
 use Rattle.hanging_refine.specs.Refined.{RefinedMesh}
 use Rattle.problem_read.specs.Entries.{ProblemParts}
 use Rattle.problem_read.specs.LookUps.{dirichlet_on}
 use Rattle.mesh_visits.specs.Meeting.{Face, is_outer, faces_of_cell, all_faces}
 use Rattle.mesh_visits.specs.Visits.{id_of}
 use Rattle.mesh_visits.proofs.Meets.{and_true, and_by}
-use Rattle.constrained_mesh.specs.Dirichlet.{lesser, least, has_value, is_end, ids_among, deciding_id}
-use Rattle.constrained_mesh.specs.Laws.{EndsFace, Decides, LeastIdDecides}
+use Rattle.constrained_mesh.specs.Dirichlet.{lesser, has_value, lies_on, ids_among, deciding_id}
+use Rattle.constrained_mesh.specs.Laws.{LiesOnFace, Decides, LeastIdDecides}
 
 IsIn : {X : Type 0} → X → List X → Type 0
 IsIn x [] = ⊥
@@ -153,51 +153,51 @@ in_all : (forest : RefinedMesh) (c f : ℕ) → c < length forest.cells → f < 
 unfolding all_faces
 in_all forest c f h b = in_faces 0 (length forest.cells) c f (omega arith) (omega (arith, h)) b
 
-test : RefinedMesh → ProblemParts → ℕ → Face → Bool
-test forest problem dof face = has_value forest problem face && is_end forest dof face
+test : ℕ → RefinedMesh → ProblemParts → ℕ → Face → Bool
+test degree forest problem dof face = has_value forest problem face && lies_on degree forest dof face
 
 -- an id among them is that of a face with a value that has the dof at an end
-found_face : (forest : RefinedMesh) (problem : ProblemParts) (dof id : ℕ) → IsIn id (ids_among forest problem (all_faces forest) dof) → EndsFace forest dof id × IsSome (dirichlet_on problem id)
+found_face : (degree : ℕ) (forest : RefinedMesh) (problem : ProblemParts) (dof id : ℕ) → IsIn id (ids_among degree forest problem (all_faces forest) dof) → LiesOnFace degree forest dof id × IsSome (dirichlet_on problem id)
 unfolding ids_among has_value
-found_face forest problem dof id h =
-    let p : Face → Bool = λ face. has_value forest problem face && is_end forest dof face in
+found_face degree forest problem dof id h =
+    let p : Face → Bool = λ face. has_value forest problem face && lies_on degree forest dof face in
     let m = map_in (id_of forest) (filter p (all_faces forest)) id h in
     let k = filter_in p (all_faces forest) m.0 m.1.0 in
     let at = all_in forest m.0 k.0 in
     let b = at.below in
-    let both = and_true (has_value forest problem m.0) (is_end forest dof m.0) k.1 in
+    let both = and_true (has_value forest problem m.0) (lies_on degree forest dof m.0) k.1 in
     let value = and_true (is_outer forest m.0) (is_some (dirichlet_on problem (id_of forest m.0))) both.0 in (
-      record { cell = m.0.0; face = m.0.1; is_cell = omega (arith, b); is_face = at.face; outer = value.0; is_id = m.1.1; end = both.1 },
+      record { cell = m.0.0; face = m.0.1; is_cell = omega (arith, b); is_face = at.face; outer = value.0; is_id = m.1.1; lies = both.1 },
       (let P : ℕ → Type 0 = λ i. IsSome (dirichlet_on problem i) in subst P (sym m.1.1) value.1),
     )
 
-face_found : (forest : RefinedMesh) (problem : ProblemParts) (dof id : ℕ) → EndsFace forest dof id → IsSome (dirichlet_on problem id) → IsIn id (ids_among forest problem (all_faces forest) dof)
+face_found : (degree : ℕ) (forest : RefinedMesh) (problem : ProblemParts) (dof id : ℕ) → LiesOnFace degree forest dof id → IsSome (dirichlet_on problem id) → IsIn id (ids_among degree forest problem (all_faces forest) dof)
 unfolding ids_among has_value
-face_found forest problem dof id w some =
-    let p : Face → Bool = λ face. has_value forest problem face && is_end forest dof face in
+face_found degree forest problem dof id w some =
+    let p : Face → Bool = λ face. has_value forest problem face && lies_on degree forest dof face in
     let x : Face = (w.cell, w.face) in
     let P : ℕ → Type 0 = λ i. IsIn i (map (id_of forest) (filter p (all_faces forest))) in
     let Q : ℕ → Type 0 = λ i. IsSome (dirichlet_on problem i) in
     subst P (sym w.is_id) (in_map (id_of forest) (filter p (all_faces forest)) x (in_filter p (all_faces forest) x (in_all forest w.cell w.face w.is_cell w.is_face)
-    (and_by (has_value forest problem x) (is_end forest dof x) (and_by (is_outer forest x) (is_some (dirichlet_on problem (id_of forest x))) w.outer (subst Q w.is_id some)) w.end)))
+    (and_by (has_value forest problem x) (lies_on degree forest dof x) (and_by (is_outer forest x) (is_some (dirichlet_on problem (id_of forest x))) w.outer (subst Q w.is_id some)) w.lies)))
 
-decides : (forest : RefinedMesh) (problem : ProblemParts) (dof id : ℕ) → deciding_id forest problem dof ≡ Some id → Decides forest problem dof id
+decides : (degree : ℕ) (forest : RefinedMesh) (problem : ProblemParts) (dof id : ℕ) → deciding_id degree forest problem dof ≡ Some id → Decides degree forest problem dof id
 unfolding deciding_id
-decides forest problem dof id e =
-    let r = least_in (ids_among forest problem (all_faces forest) dof) None id e in
-    let here : IsIn id (ids_among forest problem (all_faces forest) dof) = ⊎_elim (λ (s : None ≡ Some id). absurd (no_some id s)) (λ (s : IsIn id (ids_among forest problem (all_faces forest) dof)). s) r.found in
-    let t = found_face forest problem dof id here in
-    record { ends = t.0; has = t.1; least = λ other w some. r.all other (face_found forest problem dof other w some) }
+decides degree forest problem dof id e =
+    let r = least_in (ids_among degree forest problem (all_faces forest) dof) None id e in
+    let here : IsIn id (ids_among degree forest problem (all_faces forest) dof) = ⊎_elim (λ (s : None ≡ Some id). absurd (no_some id s)) (λ (s : IsIn id (ids_among degree forest problem (all_faces forest) dof)). s) r.found in
+    let t = found_face degree forest problem dof id here in
+    record { on = t.0; has = t.1; least = λ other w some. r.all other (face_found degree forest problem dof other w some) }
   where
     no_some : (x : ℕ) → None ≡ Some x → ⊥
     no_some x e = cc
 
-decided_by : (forest : RefinedMesh) (problem : ProblemParts) (dof id : ℕ) → Decides forest problem dof id → (found : Option ℕ) → deciding_id forest problem dof ≡ found → found ≡ Some id
+decided_by : (degree : ℕ) (forest : RefinedMesh) (problem : ProblemParts) (dof id : ℕ) → Decides degree forest problem dof id → (found : Option ℕ) → deciding_id degree forest problem dof ≡ found → found ≡ Some id
 unfolding deciding_id
-decided_by forest problem dof id w None e = absurd (not_none (ids_among forest problem (all_faces forest) dof) id (face_found forest problem dof id w.ends w.has) e)
-decided_by forest problem dof id w (Some m) e =
-    let v = decides forest problem dof m e in
-    let a = w.least m v.ends v.has in let b = v.least id w.ends w.has in ap Some (let s : m ≡ id = omega arith in s)
+decided_by degree forest problem dof id w None e = absurd (not_none (ids_among degree forest problem (all_faces forest) dof) id (face_found degree forest problem dof id w.on w.has) e)
+decided_by degree forest problem dof id w (Some m) e =
+    let v = decides degree forest problem dof m e in
+    let a = w.least m v.on v.has in let b = v.least id w.on w.has in ap Some (let s : m ≡ id = omega arith in s)
 
 pub law : LeastIdDecides
-law forest problem dof id = (λ w. decided_by forest problem dof id w (deciding_id forest problem dof) refl, λ e. decides forest problem dof id e)
+law degree forest problem dof id = (λ w. decided_by degree forest problem dof id w (deciding_id degree forest problem dof) refl, λ e. decides degree forest problem dof id e)

@@ -1,10 +1,9 @@
 -- No answer is that memory ran out.
 use Rattle.std.proofs.Common.{◌≡◌, sym, ap, refl, ℕ, Bool, true, false, List, [], ◌∷◌, Ok, Err}
-use Rattle.std.specs.Prelude.{◌≢◌, Some, None, not, is_some}
+use Rattle.std.specs.Prelude.{Some, None, not, is_some}
 use Rattle.std.specs.declared.option.Option.{Option}
 use Rattle.std.specs.declared.result.Result.{Result}
 use Rattle.fem_text.specs.Words.{◌>>=◌, or_fault, unless}
-use Rattle.affine_constraints.specs.declared.term.Term.{Term}
 use Rattle.affine_constraints.specs.declared.fault.CloseFault.{CloseFault}
 use Rattle.affine_constraints.specs.declared.fault.CloseFault.TheVariants as close
 use Rattle.affine_constraints.specs.Lines.{Lines, lines_in}

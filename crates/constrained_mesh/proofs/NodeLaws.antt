@@ -1,8 +1,7 @@
 -- The dofs of nodes, as the table of dofs has them and by the names of corners.
-use Rattle.std.proofs.Common.{◌≡◌, ◌∙◌, sym, ap, refl, ℕ, ◌<◌, ◌≤◌, ◌^◌, inl, inr, true, false, List, length, Ok, Err, arith}
+use Rattle.std.proofs.Common.{◌≡◌, ◌∙◌, sym, refl, ℕ, ◌<◌, ◌≤◌, ◌^◌, inl, inr, true, List, length, arith}
 use Rattle.std.specs.Prelude.{Some, None}
 use Rattle.std.specs.declared.option.Option.{Option}
-use Rattle.std.specs.List.{position}
 use Rattle.std.proofs.Math.Path.{fun_ext}
 use Rattle.std.proofs.lemmas.Bool.{cases_Bool}
 use Rattle.std.proofs.lemmas.List.Quantifiers.{position-Some}
@@ -10,20 +9,20 @@ use Rattle.corner_names.specs.Names.{Name, node}
 use Rattle.fem_fixed.specs.Lists.{contains, rank_of, rank_among}
 use Rattle.fem_fixed.proofs.Occurrences.{numbered, among_some, among_none}
 use Rattle.hanging_refine.specs.Refined.{RefinedMesh}
-use Rattle.dof_numbers.specs.Dofs.{Numbering, IsNumberingOf, same_name, corner_list, node_dof}
+use Rattle.dof_numbers.specs.Dofs.{Numbering, IsNumberingOf, same_name, name_list}
 use Rattle.dof_numbers.proofs.Names.{names_equal}
 use Rattle.node_ids.specs.NodeIds.{place_of}
 use Rattle.constrained_mesh.specs.Nodes.{Nodes, dof_at, dof_of_id, dof_in, dof_told, AreDofsWithin}
 
-abbrev pub nodes_of : List ℕ → RefinedMesh → Nodes
-nodes_of ids forest = record { ids = ids; forest = forest }
+abbrev pub nodes_of : List ℕ → ℕ → RefinedMesh → Nodes
+nodes_of ids degree forest = record { ids = ids; degree = degree; forest = forest }
 
-told_by : (ids : List ℕ) (forest : RefinedMesh) (dofs : Numbering) → IsNumberingOf forest dofs → length ids ≤ 2 ^ 20 → (id : ℕ) (place : Option ℕ) → place_of ids id ≡ place → dof_in dofs place ≡ dof_at forest place
+told_by : (ids : List ℕ) (forest : RefinedMesh) (dofs : Numbering) → IsNumberingOf forest dofs → length ids ≤ 2 ^ 20 → (id : ℕ) (place : Option ℕ) → place_of ids id ≡ place → dof_in dofs place ≡ dof_at dofs.degree forest place
 told_by ids forest dofs is few id None at = refl
 told_by ids forest dofs is few id (Some place) at = is.nodes place (let w = (position-Some _ ids place 0 at).0 in omega arith)
 
 -- the two are one
-pub told_is : (ids : List ℕ) (forest : RefinedMesh) (dofs : Numbering) → IsNumberingOf forest dofs → length ids ≤ 2 ^ 20 → dof_told ids dofs ≡ dof_of_id (nodes_of ids forest)
+pub told_is : (ids : List ℕ) (forest : RefinedMesh) (dofs : Numbering) → IsNumberingOf forest dofs → length ids ≤ 2 ^ 20 → dof_told ids dofs ≡ dof_of_id (nodes_of ids dofs.degree forest)
 unfolding dof_told dof_of_id
 told_is ids forest dofs is few = fun_ext (λ id. told_by ids forest dofs is few id (place_of ids id) refl)
 
@@ -48,4 +47,4 @@ told_within ids forest dofs is few id dof e = by (place_of ids id) refl e
     by (Some place) at e =
         let t = told_by ids forest dofs is few id (Some place) at in
         let s = is.size in
-        let b = below (corner_list forest) (node place) dof _ (numbered names_equal (corner_list forest)).below (sym t ∙ e) in omega arith
+        let b = below (name_list dofs.degree forest) (node place) dof _ (numbered names_equal (name_list dofs.degree forest)).below (sym t ∙ e) in omega arith

@@ -1,7 +1,7 @@
 -- Which faces are on the boundary, by what lies on their other side.
-use Rattle.std.proofs.Common.{◌≡◌, ◌∙◌, sym, ap, refl, ℕ, ◌<◌, Bool, true, false, ◌&&◌, if◌then◌else◌, List, [], ◌∷◌, ◌++◌, length}
+use Rattle.std.proofs.Common.{◌≡◌, ◌∙◌, sym, ap, refl, ℕ, ◌<◌, Bool, true, false, ◌&&◌, if◌then◌else◌, [], ◌∷◌, ◌++◌, length}
 use Rattle.std.specs.Prelude.{is_some}
-use Rattle.forest_balance.specs.Forest.{OnBoundary}
+use Rattle.corner_names.specs.Forest.{OnBoundary}
 use Rattle.hanging_refine.specs.declared.sides.ActiveSide.{ActiveSide}
 use Rattle.hanging_refine.specs.Coarse.{on_boundary}
 use Rattle.hanging_refine.specs.Refined.{RefinedMesh, cell_at}

@@ -1,11 +1,11 @@
 -- Steps of refinement, one more or the one that is refused.
-use Rattle.std.proofs.Common.{◌≡◌, ◌∙◌, sym, ap, refl, subst, ℕ, ◌+◌, ◌<◌, ◌≤◌, List, [], ◌∷◌, ◌++◌, length, take, drop, slice_index_or, add-one, Ok, Err, arith}
+use Rattle.std.proofs.Common.{◌≡◌, ◌∙◌, sym, ap, refl, subst, ℕ, ◌+◌, ◌<◌, List, [], ◌∷◌, ◌++◌, length, take, drop, slice_index_or, add-one, Ok, Err}
 use Rattle.std.proofs.Math.Seq.{drop-cons}
 use Rattle.std.proofs.lemmas.List.{take_more, take-append-drop}
 use Rattle.hanging_refine.specs.declared.fault.RefineFault.{RefineFault}
 use Rattle.hanging_refine.specs.Refined.{RefinedMesh}
 use Rattle.hanging_refine.specs.Refinement.{IsRefinedBy, IsRefusal}
-use Rattle.constrained_mesh.specs.Steps.{Outcome, StepThen, refused, refined, RefinesBy}
+use Rattle.constrained_mesh.specs.Steps.{Outcome, refused, refined, RefinesBy}
 
 same_mesh : (a b : RefinedMesh) → (let r : Outcome = Ok a in r) ≡ Ok b → a ≡ b
 same_mesh a b e = cc

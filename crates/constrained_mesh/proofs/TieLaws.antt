@@ -1,6 +1,6 @@
 -- The lines of constraints, one after another.
-use Rattle.std.proofs.Common.{◌≡◌, ◌∙◌, sym, ap, refl, subst, ℕ, zero, suc, ◌+◌, ◌<◌, ◌≤◌, Bool, true, false, List, [], ◌∷◌, ◌++◌, length, take, drop, slice_index_or, slice_set, add-one, Ok, Err, arith}
-use Rattle.std.specs.Prelude.{All, Some, None, IsSome, is_some, not, unsigned_abs, slice_get, ℤ}
+use Rattle.std.proofs.Common.{◌≡◌, ◌∙◌, sym, ap, refl, subst, ℕ, zero, suc, ◌+◌, ◌<◌, Bool, true, false, List, [], ◌∷◌, ◌++◌, length, take, drop, slice_index_or, slice_set, add-one, Ok, Err, arith}
+use Rattle.std.specs.Prelude.{All, Some, None, IsSome, is_some, not, slice_get, ℤ}
 use Rattle.std.specs.declared.option.Option.{Option}
 use Rattle.std.specs.declared.result.Result.{Result}
 use Rattle.std.specs.List.{AllByRecursion}

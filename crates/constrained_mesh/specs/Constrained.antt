@@ -1,5 +1,5 @@
 -- The closed lines of a refined mesh under a problem, or the first fault.
-use Rattle.std.specs.Prelude.{◌≡◌, ℕ, List, Ok, Err}
+use Rattle.std.specs.Prelude.{◌≡◌, Ok, Err}
 use Rattle.std.specs.declared.result.Result.{Result}
 use Rattle.affine_constraints.specs.declared.fault.CloseFault.{CloseFault}
 use Rattle.affine_constraints.specs.Lines.{Lines, lines_in}
@@ -32,5 +32,5 @@ ClosesOrFails (Err fault) answer = answer ≡ Err fault
 -- the lines of the mesh, then those of the problem's constraints in order, and then closing
 pub record IsConstrained (nodes : Nodes) (problem : ProblemParts) (answer : Answer) : Type 0 where
   pub lines : Table
-  pub of_mesh : AreMeshLines nodes.forest problem lines
+  pub of_mesh : AreMeshLines nodes.degree nodes.forest problem lines
   pub outcome : ClosesOrFails (with_ties (dof_of_id nodes) lines problem.ties) answer

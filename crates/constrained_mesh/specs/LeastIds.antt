@@ -7,5 +7,5 @@ use Rattle.mesh_visits.specs.Meeting.{Face}
 use Rattle.constrained_mesh.specs.Dirichlet.{least, ids_among}
 
 -- each dof has the least id with a value of these faces
-unfoldable pub HoldsLeast : RefinedMesh → ProblemParts → List Face → List (Option ℕ) → Type 0
-HoldsLeast forest problem faces ids = (dof : ℕ) → dof < length ids → slice_index_or ids dof None ≡ least (ids_among forest problem faces dof)
+unfoldable pub HoldsLeast : ℕ → RefinedMesh → ProblemParts → List Face → List (Option ℕ) → Type 0
+HoldsLeast degree forest problem faces ids = (dof : ℕ) → dof < length ids → slice_index_or ids dof None ≡ least (ids_among degree forest problem faces dof)

@@ -5,22 +5,23 @@ use Rattle.std.specs.declared.option.Option.TheVariants.{Some, None}
 use Rattle.corner_names.specs.Names.{node}
 use Rattle.fem_fixed.specs.Lists.{rank_among}
 use Rattle.hanging_refine.specs.Refined.{RefinedMesh}
-use Rattle.dof_numbers.specs.Dofs.{Numbering, same_name, corner_list, node_dof}
+use Rattle.dof_numbers.specs.Dofs.{Numbering, same_name, name_list, node_dof}
 use Rattle.node_ids.specs.NodeIds.{place_of}
 
--- node ids, by position, and the refined mesh
+-- node ids, by position, and the refined mesh with the degree of its dofs
 pub record Nodes : Type 0 where
   pub ids : List ℕ
+  pub degree : ℕ
   pub forest : RefinedMesh
 
 -- the dof of the node at a position: none where no active cell has it as a corner
-abbrev pub dof_at : RefinedMesh → Option ℕ → Option ℕ
-dof_at forest None = None
-dof_at forest (Some place) = rank_among same_name (corner_list forest) (node place)
+abbrev pub dof_at : ℕ → RefinedMesh → Option ℕ → Option ℕ
+dof_at degree forest None = None
+dof_at degree forest (Some place) = rank_among same_name (name_list degree forest) (node place)
 
 -- the dof of the node with an id
 unfoldable pub dof_of_id : Nodes → ℕ → Option ℕ
-dof_of_id nodes id = dof_at nodes.forest (place_of nodes.ids id)
+dof_of_id nodes id = dof_at nodes.degree nodes.forest (place_of nodes.ids id)
 
 -- the same, as a table of dofs has it
 abbrev pub dof_in : Numbering → Option ℕ → Option ℕ

@@ -15,8 +15,8 @@ use node_ids::NodeIds;
 use problem_read::Problem;
 use std::alloc::Global;
 
-/// The closed constraint lines of a refined mesh under a problem: first the Dirichlet line of each dof at an end
-/// of a boundary face whose id has a value, where the least such id decides; then the lines of hanging corners;
+/// The closed constraint lines of a refined mesh under a problem: first the Dirichlet line of each dof of a
+/// boundary face whose id has a value, where the least such id decides; then the lines of hanging dofs;
 /// then the constraints of the problem in order, each decided before the next; and then closing.
 ///
 /// # Errors
@@ -31,8 +31,8 @@ pub fn constraint_lines(
 ) -> Result<Closed, ConstraintFault>
     requires numbered { IsNumberingOf forest.now dofs.now }
     requires count { length ids.now ≤ 2 ^ 20 }
-    ensures ok { IfOk result (λ closed. IsConstrained (record { ids = ids.now; forest = forest.now }) problem.now (Ok (lines_in closed))) }
-    ensures fault { IfErr result (λ fault. fault ≢ Memory → IsConstrained (record { ids = ids.now; forest = forest.now }) problem.now (Err fault)) }
+    ensures ok { IfOk result (λ closed. IsConstrained (record { ids = ids.now; degree = dofs.now.degree; forest = forest.now }) problem.now (Ok (lines_in closed))) }
+    ensures fault { IfErr result (λ fault. fault ≢ Memory → IsConstrained (record { ids = ids.now; degree = dofs.now.degree; forest = forest.now }) problem.now (Err fault)) }
     ensures size { IfOk result (λ closed. length closed ≡ dofs.now.size) }
 {
     let mut lines = mesh_lines(alloc, forest, dofs, problem)?;

@@ -16,7 +16,8 @@ use hanging_refine::{ActiveSide, Forest};
 use problem_read::Problem;
 use std::alloc::Global;
 
-/// The lines of the ends of boundary faces whose id has a value: no terms, and the value of the least such id.
+/// The lines of the dofs of boundary faces whose id has a value: no terms, and the value of the least such id. A
+/// face has the dofs of its ends, and with degree 2 that of its middle.
 pub fn dirichlet_lines(
     alloc: Global,
     forest: &Forest,
@@ -25,8 +26,9 @@ pub fn dirichlet_lines(
 ) -> Result<LineSet, NoMemory>
     requires { IsNumberingOf forest.now dofs.now }
     ensures size { IfOk result (λ lines. length lines ≡ dofs.now.size) }
-    ensures lines { IfOk result (λ lines. (dof : ℕ) → dof < dofs.now.size → lines_in lines dof ≡ dirichlet_line forest.now problem.now dof) }
-    ensures hanging { OnOk result (HangingHaveNone forest.now problem.now) }
+    ensures lines { IfOk result (λ lines. (dof : ℕ) → dof < dofs.now.size → lines_in lines dof ≡ dirichlet_line dofs.now.degree forest.now problem.now dof) }
+    ensures hanging { OnOk result (HangingHaveNone dofs.now.degree forest.now problem.now) }
+    ensures grown { OnOk result (IsGrown forest.now) }
 {
     let ids = least_ids(alloc, forest, dofs, problem)?;
     let mut lines = LineSet::new(alloc, dofs.size())?;
@@ -60,7 +62,7 @@ fn add_value(
     }
 }
 
-/// For each dof, the least id with a value of the faces that have it at an end.
+/// For each dof, the least id with a value of the faces on which it lies.
 fn least_ids(
     alloc: Global,
     forest: &Forest,
@@ -69,8 +71,9 @@ fn least_ids(
 ) -> Result<Vec<Option<u32>>, NoMemory>
     requires { IsNumberingOf forest.now dofs.now }
     ensures size { IfOk result (λ ids. length ids.items ≡ dofs.now.size) }
-    ensures ids { IfOk result (λ ids. HoldsLeast forest.now problem.now (all_faces forest.now) ids.items) }
-    ensures hanging { OnOk result (HangingHaveNone forest.now problem.now) }
+    ensures ids { IfOk result (λ ids. HoldsLeast dofs.now.degree forest.now problem.now (all_faces forest.now) ids.items) }
+    ensures hanging { OnOk result (HangingHaveNone dofs.now.degree forest.now problem.now) }
+    ensures grown { OnOk result (IsGrown forest.now) }
 {
     let mut ids = vec![in alloc; None; dofs.size() as usize]?;
     for cell in 0..forest.cells() {
@@ -85,7 +88,7 @@ fn note_cell(ids: &mut Vec<Option<u32>>, forest: &Forest, dofs: &Dofs, problem: 
     requires numbered { IsNumberingOf forest.now dofs.now }
     requires cell { cell < length forest.now.cells }
     requires size { length ids.old.items ≡ dofs.now.size }
-    ensures noted { (seen : List Face) → HoldsLeast forest.now problem.now seen ids.old.items → HoldsLeast forest.now problem.now (seen ++ (cell, 0) ∷ (cell, 1) ∷ (cell, 2) ∷ (cell, 3) ∷ []) ids.new.items }
+    ensures noted { (seen : List Face) → HoldsLeast dofs.now.degree forest.now problem.now seen ids.old.items → HoldsLeast dofs.now.degree forest.now problem.now (seen ++ (cell, 0) ∷ (cell, 1) ∷ (cell, 2) ∷ (cell, 3) ∷ []) ids.new.items }
     ensures size { length ids.new.items ≡ length ids.old.items }
 {
     note_face(ids, forest, dofs, problem, cell, 0);
@@ -94,7 +97,7 @@ fn note_cell(ids: &mut Vec<Option<u32>>, forest: &Forest, dofs: &Dofs, problem: 
     note_face(ids, forest, dofs, problem, cell, 3);
 }
 
-/// Notes the id of a face at its two ends, where it has a value.
+/// Notes the id of a face at its dofs, where it has a value.
 fn note_face(
     ids: &mut Vec<Option<u32>>,
     forest: &Forest,
@@ -108,15 +111,18 @@ fn note_face(
     requires cell { cell < length forest.now.cells }
     requires face { face < 4 }
     requires size { length ids.old.items ≡ dofs.now.size }
-    ensures noted { (seen : List Face) → HoldsLeast forest.now problem.now seen ids.old.items → HoldsLeast forest.now problem.now (seen ++ (cell, face) ∷ []) ids.new.items }
+    ensures noted { (seen : List Face) → HoldsLeast dofs.now.degree forest.now problem.now seen ids.old.items → HoldsLeast dofs.now.degree forest.now problem.now (seen ++ (cell, face) ∷ []) ids.new.items }
     ensures size { length ids.new.items ≡ length ids.old.items }
 {
     match id_with_value(forest, problem, cell, face) {
         None => {}
         Some(id) => {
-            let corners = dofs.of_cell(cell);
-            note_id(ids, corners[start_of(face)], id);
-            note_id(ids, corners[end_of(face)], id);
+            let row = dofs.of_cell(cell);
+            note_id(ids, row[start_of(face)], id);
+            note_id(ids, row[end_of(face)], id);
+            if dofs.degree() == 2 {
+                note_id(ids, row[4 + face as usize], id);
+            }
         }
     }
 }

@@ -15,7 +15,7 @@ pub fn answers_are_never_for_memory()
     ensures { NeverForMemory }
 {}
 
-/// A dof has the Dirichlet line of the least id with a value of the boundary faces that have it at an end.
+/// A dof has the Dirichlet line of the least id with a value of the boundary faces on which it lies.
 pub fn the_least_id_decides()
     ensures { LeastIdDecides }
 {}

@@ -1,5 +1,5 @@
 //! From a coarse mesh and a problem text to a refined mesh and its closed constraint lines: the refinement
-//! steps, the Dirichlet lines of boundary values, the lines of hanging corners, the constraints of the problem,
+//! steps, the Dirichlet lines of boundary values, the lines of hanging dofs, the constraints of the problem,
 //! and closing.
 #![tactic(auto)]
 
@@ -10,8 +10,6 @@ mod laws;
 mod mesh_lines;
 mod nodes;
 mod refinement;
-#[cfg(test)]
-mod tests;
 mod ties;
 
 pub use closed_lines::constraint_lines;

@@ -10,7 +10,7 @@ use hanging_refine::Forest;
 use problem_read::Problem;
 use std::alloc::Global;
 
-/// The lines of the mesh: those of boundary values, and those of hanging corners.
+/// The lines of the mesh: those of boundary values, and those of hanging dofs.
 pub fn mesh_lines(
     alloc: Global,
     forest: &Forest,
@@ -19,7 +19,7 @@ pub fn mesh_lines(
 ) -> Result<LineSet, NoMemory>
     requires { IsNumberingOf forest.now dofs.now }
     ensures size { IfOk result (λ lines. length lines ≡ dofs.now.size) }
-    ensures lines { IfOk result (AreMeshLines forest.now problem.now) }
+    ensures lines { IfOk result (AreMeshLines dofs.now.degree forest.now problem.now) }
 {
     let mut lines = dirichlet_lines(alloc, forest, dofs, problem)?;
     match dofs.hanging(alloc, forest, &mut lines) {

@@ -1,4 +1,3 @@
 pub mod Pieces
 pub mod Lines
-pub mod Layers
 pub mod Stages

@@ -5,8 +5,6 @@ use Rattle.std.specs.declared.option.Option.{Option}
 use Rattle.fem_text.specs.declared.counts.Counts.{Counts}
 use Rattle.fem_text.specs.Counts.{AllWell, EndsInFault}
 use Rattle.fem_text.specs.Outside.{appended, TookPrefix}
-use Rattle.fixed_q1.specs.declared.fault.LocalFault.{LocalFault}
-use Rattle.fixed_q1.specs.declared.fault.LocalFault.TheVariants as locals
 use Rattle.diagnostics.specs.declared.kinds.MeshTextKind.{MeshTextKind}
 use Rattle.diagnostics.specs.declared.kinds.MeshTextKind.TheVariants as mesh_texts
 use Rattle.diagnostics.specs.declared.kinds.ProblemTextKind.{ProblemTextKind}
@@ -15,6 +13,8 @@ use Rattle.diagnostics.specs.declared.kinds.MeshKind.{MeshKind}
 use Rattle.diagnostics.specs.declared.kinds.MeshKind.TheVariants as meshes
 use Rattle.diagnostics.specs.declared.kinds.ConstraintKind.{ConstraintKind}
 use Rattle.diagnostics.specs.declared.kinds.ConstraintKind.TheVariants as constraints
+use Rattle.diagnostics.specs.declared.kinds.LocalKind.{LocalKind}
+use Rattle.diagnostics.specs.declared.kinds.LocalKind.TheVariants as locals
 use Rattle.diagnostics.specs.declared.kinds.LimitKind.{LimitKind}
 use Rattle.diagnostics.specs.declared.kinds.LimitKind.TheVariants.{MeshSize, MeshCount, ProblemSize, ProblemCount, Level, Cells, Entries}
 use Rattle.diagnostics.specs.declared.refusal.Refusal.{Refusal}
@@ -32,7 +32,7 @@ status_of (MeshText kind line) = 3
 status_of (ProblemText kind line) = 4
 status_of (Mesh kind place) = 5
 status_of (Constraint kind place) = 6
-status_of (Local cell fault) = 7
+status_of (Local cell kind) = 7
 status_of (Sum cell row) = 8
 status_of (Limit kind) = 9
 status_of (Absent role) = 17
@@ -75,7 +75,7 @@ constraint_word constraints.Cycle = codes "Cycle"
 constraint_word constraints.Weight = codes "Weight"
 constraint_word constraints.Terms = codes "Terms"
 
-abbrev pub local_word : LocalFault → List ℕ
+abbrev pub local_word : LocalKind → List ℕ
 local_word locals.Distorted = codes "Distorted"
 local_word locals.Size = codes "Size"
 
@@ -118,7 +118,7 @@ refusal_line (MeshText kind line) = named_line (codes "3 MeshText line ") line (
 refusal_line (ProblemText kind line) = named_line (codes "4 ProblemText line ") line (problem_text_word kind)
 refusal_line (Mesh kind place) = fault_line (codes "5 Mesh ") (mesh_word kind) place
 refusal_line (Constraint kind place) = fault_line (codes "6 Constraint ") (constraint_word kind) place
-refusal_line (Local cell fault) = named_line (codes "7 Local cell ") cell (local_word fault)
+refusal_line (Local cell kind) = named_line (codes "7 Local cell ") cell (local_word kind)
 refusal_line (Sum cell row) = sum_line cell row
 refusal_line (Limit kind) = limit_line kind
 refusal_line (Absent role) = word_line (codes "17 Absent ") (role_word role)

@@ -4,6 +4,7 @@ ghost use Rattle.diagnostics.specs.Lines as lines;
 
 use crate::line::{Piece, put_pieces};
 use crate::refusal::Refusal;
+use fem_fixed::NoMemory;
 use fem_text::Sink;
 
 /// A text that a run reads.
@@ -66,6 +67,16 @@ impl From<Refusal> for Ending {
 
     fn from(refusal: Refusal) -> Ending {
         Ending::Refused(refusal)
+    }
+}
+
+impl From<NoMemory> for Ending {
+    ghost use Rattle.diagnostics.specs.declared.ending.Ending.TheVariants.{NoMemory as OutOfMemory};
+
+    ghost from_gives = { λ _ e. e ≡ OutOfMemory };
+
+    fn from(_error: NoMemory) -> Ending {
+        Ending::NoMemory
     }
 }
 

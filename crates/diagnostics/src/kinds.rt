@@ -109,6 +109,27 @@ impl ConstraintKind {
     }
 }
 
+/// The kinds of fault of a local form.
+#[derive(Clone, Copy, Debug, PartialEq, Eq)]
+pub enum LocalKind {
+    /// The cell is folded.
+    Distorted,
+    /// A number of the form is too large.
+    Size,
+}
+
+impl LocalKind {
+    /// Its word in a line.
+    pub(crate) fn word(self) -> &'static [u8]
+        ensures { result.now ≡ lines.local_word self }
+    {
+        match self {
+            LocalKind::Distorted => b"Distorted",
+            LocalKind::Size => b"Size",
+        }
+    }
+}
+
 /// What is too large or too many.
 #[derive(Clone, Copy, Debug, PartialEq, Eq)]
 pub enum LimitKind {

@@ -3,13 +3,9 @@
 
 mod ending;
 mod kinds;
-mod layers;
 mod line;
 mod refusal;
 
 pub use ending::{Ending, Output, Role};
-pub use kinds::{ConstraintKind, LimitKind, MeshKind, MeshTextKind, ProblemTextKind};
+pub use kinds::{ConstraintKind, LimitKind, LocalKind, MeshKind, MeshTextKind, ProblemTextKind};
 pub use refusal::Refusal;
-
-#[cfg(test)]
-mod tests;

@@ -3,10 +3,9 @@ ghost use Rattle.diagnostics.specs.Lines.{status_of, TookLine};
 ghost use Rattle.diagnostics.specs.Lines as lines;
 
 use crate::ending::{Role, put_word};
-use crate::kinds::{ConstraintKind, LimitKind, MeshKind, MeshTextKind, ProblemTextKind};
+use crate::kinds::{ConstraintKind, LimitKind, LocalKind, MeshKind, MeshTextKind, ProblemTextKind};
 use crate::line::{Piece, put_pieces};
 use fem_text::Sink;
-use fixed_q1::LocalFault;
 
 /// Why the words and the texts have no result.
 #[derive(Clone, Copy, Debug, PartialEq, Eq)]
@@ -22,7 +21,7 @@ pub enum Refusal {
     /// A fault of the constraints, and the id or the dof that has it.
     Constraint(ConstraintKind, u32),
     /// The local form of this cell has a fault, and no earlier cell fails.
-    Local(u32, LocalFault),
+    Local(u32, LocalKind),
     /// An addition of this cell passes 2^80 in size, at this row first, and no earlier cell fails.
     Sum(u32, u32),
     /// Something is too large or too many.
@@ -66,26 +65,11 @@ impl Refusal {
                 kind.word(),
                 place,
             ),
-            Refusal::Local(cell, fault) => put_named(
-                err,
-                b"7 Local cell ",
-                cell,
-                local_word(fault),
-            ),
+            Refusal::Local(cell, kind) => put_named(err, b"7 Local cell ", cell, kind.word()),
             Refusal::Sum(cell, row) => put_sum(err, cell, row),
             Refusal::Limit(kind) => put_limit(err, kind),
             Refusal::Absent(role) => put_word(err, b"17 Absent ", role.word()),
         }
-    }
-}
-
-/// The word of a fault of a local form.
-fn local_word(fault: LocalFault) -> &'static [u8]
-    ensures { result.now ≡ lines.local_word fault }
-{
-    match fault {
-        LocalFault::Distorted => b"Distorted",
-        LocalFault::Size => b"Size",
     }
 }
 

@@ -1,20 +1,14 @@
--- Each dof below the size is that of a corner.
-use Rattle.std.proofs.Common.{◌≡◌, ◌∙◌, sym, ap, ℕ, zero, suc, ◌+◌, ◌<◌, ◌≤◌, ◌⊎◌, List, [], ◌∷◌, ◌++◌, Bool, true, false, length, map, arith, append_assoc, append-nil, subst, inl, inr}
-use Rattle.std.specs.Prelude.{◌||◌, if◌then◌else◌}
-use Rattle.std.specs.List.{flat_map}
+-- Each dof below the size is that of a place of a cell.
+use Rattle.std.proofs.Common.{◌≡◌, ◌∙◌, sym, ap, ℕ, ◌+◌, ◌<◌, ◌≤◌, ◌⊎◌, List, [], ◌∷◌, ◌++◌, true, length, arith, append_assoc, append-nil, subst, inl, inr, ⊎_elim}
+use Rattle.std.specs.Prelude.{if◌then◌else◌}
 use Rattle.std.proofs.lemmas.Bool.{cases_Bool}
 use Rattle.fem_fixed.specs.Lists.{contains, different, rank_of}
-use Rattle.fem_fixed.proofs.Occurrences.{contains-append, contains_last, contains_more, different-append, rank_stays, rank_next}
-use Rattle.quad_mesh.specs.Mesh.{CoarseMesh}
-use Rattle.corner_names.specs.Names.{Cell, Name}
-use Rattle.corner_names.specs.Cells.{vertex}
-use Rattle.forest_balance.proofs.Active.{or_true}
-use Rattle.hanging_refine.specs.Coarse.{corner_at}
-use Rattle.hanging_refine.specs.Refined.{RefinedMesh, active_cells, cell_in, named}
-use Rattle.hanging_refine.specs.Numbered.{corner_name}
-use Rattle.hanging_refine.proofs.Lists.{map_length}
-use Rattle.dof_numbers.specs.Dofs.{same_name, cell_names, corner_list, name_dof, Numbering, IsNumberingOf, HasCorner}
+use Rattle.fem_fixed.proofs.Occurrences.{contains_last, contains_more, different-append, rank_stays, rank_next}
+use Rattle.corner_names.specs.Names.{Name}
+use Rattle.hanging_refine.specs.Refined.{RefinedMesh, active_cells}
+use Rattle.dof_numbers.specs.Dofs.{same_name, names_each, name_list, name_dof, middle_name, centre_name, Numbering, IsNumberingOf, HasPlace}
 use Rattle.dof_numbers.proofs.Names.{names_equal}
+use Rattle.dof_numbers.proofs.Listed.{CellOf, a_vertex, a_middle, a_centre, cell_of_name, len_is}
 
 -- a name with this dof
 record Ranked (names : List Name) (dof : ℕ) : Type 0 where
@@ -62,50 +56,30 @@ none dof h = absurd (omega arith)
 every : (names : List Name) → AreAll names
 every names = more names [] none
 
--- a name of one of the cells, and where it stands
-record Placed (mesh : CoarseMesh) (cells : List Cell) (x : Name) : Type 0 where
-  cell : ℕ
-  v : ℕ
-  within : cell < length cells
-  is_vertex : v < 4
-  is : vertex (corner_at mesh) (cell_in cells cell) v ≡ x
+-- a cell has at least four names, and nine with degree 2
+pub four_each : (degree : ℕ) → (degree ≡ 1) ⊎ (degree ≡ 2) → 4 ≤ names_each degree
+four_each degree d =
+    ⊎_elim (λ (e : degree ≡ 1). (let t : names_each degree ≡ 4 = ap names_each e in omega arith))
+    (λ (e : degree ≡ 2). (let t : names_each degree ≡ 9 = ap names_each e in omega arith)) d
 
-first_cell : (mesh : CoarseMesh) (c : Cell) (cells : List Cell) (x : Name) → contains same_name (cell_names mesh c) x ≡ true → Placed mesh (c ∷ cells) x
-first_cell mesh c cells x h = elim (or_true _ _ h) [
-  | inl e ↦ at 0 (omega arith) e
-  | inr h1 ↦ elim (or_true _ _ h1) [
-    | inl e ↦ at 1 (omega arith) e
-    | inr h2 ↦ elim (or_true _ _ h2) [
-      | inl e ↦ at 2 (omega arith) e
-      | inr h3 ↦ elim (or_true _ _ h3) [ inl e ↦ at 3 (omega arith) e | inr none ↦ absurd cc ]
-    ]
-  ]
-]
-  where
-    at : {mesh : CoarseMesh} {c : Cell} {cells : List Cell} {x : Name} (v : ℕ) → v < 4 → same_name (vertex (corner_at mesh) c v) x ≡ true → Placed mesh (c ∷ cells) x
-    at {mesh = mesh} {c = c} {x = x} v b e = record { cell = 0; v = v; within = omega arith; is_vertex = b; is = names_equal.equal (vertex (corner_at mesh) c v) x e }
+placed : (degree : ℕ) (forest : RefinedMesh) (x : Name) → contains same_name (name_list degree forest) x ≡ true → CellOf degree forest.mesh (active_cells forest) x
+unfolding name_list
+placed degree forest x h = cell_of_name degree forest.mesh (active_cells forest) x h
 
-place : (mesh : CoarseMesh) (cells : List Cell) (x : Name) → contains same_name (flat_map (cell_names mesh) cells) x ≡ true → Placed mesh cells x
-place mesh [] x h = absurd cc
-place mesh (c ∷ cells) x h =
-    elim (or_true (contains same_name (cell_names mesh c) x) (contains same_name (flat_map (cell_names mesh) cells) x)
-    (sym (contains-append same_name (cell_names mesh c) (flat_map (cell_names mesh) cells) x) ∙ h)) [
-      | inl e ↦ first_cell mesh c cells x e
-      | inr e ↦ (let p = place mesh cells x e in
-          let within : p.cell < length cells = p.within in
-          record { cell = suc p.cell; v = p.v; within = omega arith; is_vertex = p.is_vertex; is = p.is })
-    ]
-
-placed : (forest : RefinedMesh) (x : Name) → contains same_name (corner_list forest) x ≡ true → Placed forest.mesh (active_cells forest) x
-unfolding corner_list
-placed forest x h = place forest.mesh (active_cells forest) x h
-
-pub every_dof : (forest : RefinedMesh) (dofs : Numbering) → IsNumberingOf forest dofs → (dof : ℕ) → dof < dofs.size → HasCorner forest dofs dof
+pub every_dof : (forest : RefinedMesh) (dofs : Numbering) → IsNumberingOf forest dofs → (dof : ℕ) → dof < dofs.size → HasPlace forest dofs dof
 unfolding AreAll
 every_dof forest dofs is dof h =
+    let degree = dofs.degree in
     let size = is.size in
-    let r = every (corner_list forest) dof (omega arith) in
-    let p = placed forest r.name r.there in
-    let len : length (map named forest.cells) ≡ length forest.cells = map_length named forest.cells in
+    let r = every (name_list degree forest) dof (omega arith) in
+    let p = placed degree forest r.name r.there in
+    let len = len_is forest in
     let within : p.cell < length forest.cells = (let w = p.within in omega arith) in
-    record { cell = p.cell; v = p.v; within = within; is_vertex = p.is_vertex; is = is.cells p.cell p.v within p.is_vertex ∙ ap (name_dof forest) p.is ∙ r.is }
+    let four = four_each degree is.degree in
+    elim p.is [
+      | a_vertex v b e ↦ record { cell = p.cell; place = v; within = within; is_place = omega arith; is = is.cells p.cell v within b ∙ ap (name_dof degree forest) e ∙ r.is }
+      | a_middle f two b e ↦ (let nine : names_each degree ≡ 9 = ap names_each two in
+          record { cell = p.cell; place = 4 + f; within = within; is_place = omega arith; is = is.middles p.cell f two within b ∙ ap (λ d. name_dof d forest (middle_name forest p.cell f)) (sym two) ∙ ap (name_dof degree forest) e ∙ r.is })
+      | a_centre two e ↦ (let nine : names_each degree ≡ 9 = ap names_each two in
+          record { cell = p.cell; place = 8; within = within; is_place = omega arith; is = is.centres p.cell two within ∙ ap (λ d. name_dof d forest (centre_name forest p.cell)) (sym two) ∙ ap (name_dof degree forest) e ∙ r.is })
+    ]

@@ -1,9 +1,9 @@
-ghost use Rattle.std.specs.Prelude.{◌≡◌, slice_get, position};
+ghost use Rattle.std.specs.Prelude.{◌≡◌, slice_get};
 ghost use Rattle.std.specs.Option.{option_copied};
-ghost use Rattle.std.specs.List.{before_first, after_first};
-ghost use Rattle.fem_text.specs.Lines.{is_blank, words_of};
+ghost use Rattle.fem_text.specs.Lines.{words_of};
 
 use crate::TextLine;
+use crate::blanks::split_at_blank;
 use std::marker::Model;
 
 // How many words are kept.
@@ -73,22 +73,4 @@ impl<'a> LineWords<'a> {
     {
         self.line
     }
-}
-
-// What stands before the first blank, and what follows it.
-fn split_at_blank(text: &[u8]) -> (&[u8], &[u8])
-    ensures front { result.0.now ≡ before_first is_blank text.now }
-    ensures back { result.1.now ≡ after_first is_blank text.now }
-{
-    match blank_place(text) {
-        Some(place) => (&text[..place], &text[place + 1..]),
-        None => (text, &text[text.len()..]),
-    }
-}
-
-// The place of the first blank.
-fn blank_place(text: &[u8]) -> Option<usize>
-    ensures { result ≡ position is_blank text.now }
-{
-    text.iter().position(|byte| *byte == b' ' || *byte == b'\t')
 }

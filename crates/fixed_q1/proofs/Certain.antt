@@ -1,8 +1,8 @@
 -- A quotient that is less than half a divisor off is the nearest one.
-use Rattle.std.proofs.Common.{◌≡◌, ℕ, ◌+◌, ◌^◌, ◌<◌, ◌≤◌, ℤ, pos, negsuc, ◌-ℤ◌, ◌*ℤ◌, ◌<ℤ◌, FitsSigned, arith, lit<}
+use Rattle.std.proofs.Common.{◌≡◌, ℕ, ◌+◌, ◌-◌, ◌^◌, ◌<◌, ◌≤◌, ℤ, pos, negsuc, ◌-ℤ◌, ◌*ℤ◌, ◌<ℤ◌, FitsSigned, arith, lit<}
 use Rattle.std.specs.Prelude.{unsigned_abs, nat_le, IsTrue, ◌/◌, ◌%◌}
 use Rattle.std.specs.Int.{w64, w128}
-use Rattle.std.proofs.lemmas.Int.{fits_signed_from_abs}
+use Rattle.std.proofs.lemmas.Int.{ints, fits_signed_from_abs}
 use Rattle.std.proofs.lemmas.Bool.Decides.{nat_tests}
 use Rattle.fem_fixed.specs.Rounding.{IsNearest, nearest}
 use Rattle.fem_fixed.proofs.Sizes.{size_sub, size_mul, size_fits}
@@ -15,6 +15,12 @@ tested a b h = grind (arith, nat_tests)
 -- at most half a divisor off, and less than that where it is odd
 pub certain_near : (n d q : ℤ) → unsigned_abs (n -ℤ q *ℤ d) + unsigned_abs q % 2 ≤ unsigned_abs d / 2 → IsNearest n d q
 certain_near n d q h = record { near = omega arith; even = λ tie. omega arith }
+
+-- less than half a divisor off
+pub close_near : (n d q : ℤ) → pos 0 <ℤ d → unsigned_abs (n -ℤ q *ℤ d) ≤ (unsigned_abs d - 1) / 2 → IsNearest n d q
+close_near n d q positive h =
+    let size : 0 < unsigned_abs d = grind (arith, ints) in
+    record { near = omega arith; even = λ tie. omega arith }
 
 pub certain_value : (n d q : ℤ) → pos 0 <ℤ d → IsNearest n d q → q ≡ nearest n d
 certain_value n d q positive near = nearest_is_one n d (nearest n d) q positive (nearest_is_near n d positive) near

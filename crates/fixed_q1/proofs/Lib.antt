@@ -9,4 +9,5 @@ pub mod Jumps
 pub mod FaceBounds
 pub mod Turned
 pub mod Exchanged
-mod Certain
+pub mod Certain
+mod TenEntries

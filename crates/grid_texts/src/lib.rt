@@ -5,7 +5,5 @@ mod cells;
 mod draws;
 mod grid;
 mod nodes;
-#[cfg(test)]
-mod tests;
 
 pub use grid::{GridTexts, generate};

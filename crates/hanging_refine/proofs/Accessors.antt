@@ -6,16 +6,16 @@ use Rattle.corner_names.specs.Cells.{Corners, vertex, mid, face_start, face_end}
 use Rattle.corner_names.specs.Table.{first, name_of, IsMore}
 use Rattle.corner_names.proofs.Keys.{node_name}
 use Rattle.corner_names.proofs.Across.{mid_pair}
-use Rattle.forest_balance.proofs.Balance.{start_on, end_on}
-use Rattle.forest_balance.proofs.Cover.{mid_half}
-use Rattle.forest_balance.specs.Forest.{MeetAt}
+use Rattle.corner_names.proofs.Balance.{start_on, end_on}
+use Rattle.corner_names.proofs.Cover.{mid_half}
+use Rattle.corner_names.specs.Forest.{MeetAt}
 use Rattle.hanging_refine.specs.declared.stored.StoredCell.{StoredCell}
 use Rattle.hanging_refine.specs.declared.sides.ActiveSide.{ActiveSide}
 use Rattle.hanging_refine.specs.declared.sides.ActiveSide.TheVariants.{Boundary, Equal, Coarser, Finer}
 use Rattle.hanging_refine.specs.Coarse.{corner_at, on_boundary}
 use Rattle.hanging_refine.specs.Refined.{ActiveCell, RefinedMesh, cell_in, cell_at, coarse_of}
 use Rattle.hanging_refine.specs.Points.{cell_points}
-use Rattle.forest_balance.specs.Active.{IsForest, AreOnce}
+use Rattle.corner_names.specs.Active.{IsForest, AreOnce}
 use Rattle.hanging_refine.specs.Grown.{IsGrown}
 use Rattle.hanging_refine.specs.Refinement.{KeepsNumbers}
 use Rattle.hanging_refine.specs.Numbered.{AreNamedBy, corner_name, corner_number}

@@ -6,7 +6,7 @@ use Rattle.std.specs.Option.{option_or}
 use Rattle.std.proofs.lemmas.Grind.{common_steps}
 use Rattle.quad_mesh.specs.Mesh.{CoarseMesh}
 use Rattle.corner_names.specs.Names.{Cell}
-use Rattle.forest_balance.specs.Forest.{MeetAt}
+use Rattle.corner_names.specs.Forest.{MeetAt}
 use Rattle.hanging_refine.specs.declared.fault.RefineFault.{RefineFault}
 use Rattle.hanging_refine.specs.declared.fault.RefineFault.TheVariants.{NoSuchCell, Level, Limit, Flat, NoMemory}
 use Rattle.hanging_refine.specs.declared.stored.StoredCell.{StoredCell}

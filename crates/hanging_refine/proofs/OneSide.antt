@@ -5,12 +5,12 @@ use Rattle.corner_names.specs.Cells.{Corners, vertex, mid, face_start, face_end,
 use Rattle.corner_names.proofs.Names.{middle_of-inj, middle_of-size}
 use Rattle.corner_names.proofs.Across.{mid_pair, on_cases, end_smaller, start_less, end_less}
 use Rattle.corner_names.proofs.Distinct.{vertex_one}
-use Rattle.forest_balance.specs.Forest.{IsActive, MeetAt, IsHalfAt, IsFace, Covered, boundary, equal, coarser, finer}
-use Rattle.forest_balance.specs.Active.{same_cell, has_cell, refined_by, IsForest, AreOnce}
-use Rattle.forest_balance.proofs.Active.{forest_covered, or_true, same_true}
-use Rattle.forest_balance.proofs.Balance.{start_on, end_on}
-use Rattle.forest_balance.proofs.Cover.{half_mid, pair_mid}
-use Rattle.forest_balance.proofs.Lower.{half_not_same}
+use Rattle.corner_names.specs.Forest.{IsActive, MeetAt, IsHalfAt, IsFace, Covered, boundary, equal, coarser, finer}
+use Rattle.corner_names.specs.Active.{same_cell, has_cell, refined_by, IsForest, AreOnce}
+use Rattle.corner_names.proofs.Active.{forest_covered, or_true, same_true}
+use Rattle.corner_names.proofs.Balance.{start_on, end_on}
+use Rattle.corner_names.proofs.Cover.{half_mid, pair_mid}
+use Rattle.corner_names.proofs.Lower.{half_not_same}
 use Rattle.hanging_refine.specs.declared.sides.ActiveSide.{ActiveSide}
 use Rattle.hanging_refine.specs.declared.sides.ActiveSide.TheVariants.{Boundary, Equal, Coarser, Finer}
 use Rattle.hanging_refine.specs.Coarse.{corner_at, on_boundary, boundary_id}

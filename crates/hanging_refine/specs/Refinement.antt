@@ -1,6 +1,6 @@
 -- A step of refinement, by the names of corners.
 use Rattle.std.specs.Prelude.{◌≡◌, ℕ, ◌+◌, ◌*◌, ◌<◌, ◌≤◌, ◌^◌, ◌==◌, ◌&&◌, Bool, true, List, length, slice_index, Some, None}
-use Rattle.forest_balance.specs.Forest.{MeetAt}
+use Rattle.corner_names.specs.Forest.{MeetAt}
 use Rattle.hanging_refine.specs.declared.fault.RefineFault.{RefineFault}
 use Rattle.hanging_refine.specs.declared.fault.RefineFault.TheVariants.{NoSuchCell, Level, Limit, Flat, NoMemory}
 use Rattle.hanging_refine.specs.Coarse.{corner_at}

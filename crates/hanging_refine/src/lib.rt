@@ -13,8 +13,6 @@ mod refusals;
 mod sides;
 mod step;
 mod stored;
-#[cfg(test)]
-mod tests;
 
 pub use fault::RefineFault;
 pub use forest::Forest;

@@ -1,5 +1,5 @@
 -- Entries of blocks.
-use Rattle.std.proofs.Common.{◌≡◌, ℕ, ◌<◌, ◌≤◌, ◌^◌, List, [], length, ℤ, pos, arith, slice_index_or}
+use Rattle.std.proofs.Common.{◌≡◌, ℕ, ◌<◌, ◌≤◌, ◌^◌, List, [], length, ℤ, arith, slice_index_or}
 use Rattle.std.specs.Prelude.{unsigned_abs}
 use Rattle.local_blocks.specs.Blocks.{LocalBlock, IsBlock}
 

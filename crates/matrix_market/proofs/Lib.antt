@@ -1,11 +1,8 @@
-pub mod Digits
 pub mod Pieces
 pub mod Whole
 pub mod Steps
 pub mod OneReading
 pub mod NoMemory
-pub mod Plain
-pub mod TextLines
 pub mod Decimals
 pub mod ReadBack
 pub mod Matrices

@@ -9,16 +9,18 @@ use Rattle.std.proofs.lemmas.Bool.Decides.{nat_tests}
 use Rattle.std.proofs.lemmas.List.Elements.{All-head, All-tail}
 use Rattle.fem_text.specs.Lines.{words_of}
 use Rattle.fem_text.specs.WordLines.{starts_with}
-use Rattle.fem_text.specs.Words.{id_at}
+use Rattle.fem_text.specs.Words.{id_at, this_word}
 use Rattle.matrix_market.specs.declared.size.MatrixSize.{MatrixSize}
 use Rattle.matrix_market.specs.Entries.{Triple, Fills, row_entries, entries_from, entries_of}
-use Rattle.matrix_market.specs.Texts.{line_of, size_line, entry_line, unit_line, matrix_front, matrix_text}
-use Rattle.matrix_market.specs.Lines.{this_word, banner_line, matrix_size, from_zero, index_at, value_at, matrix_entry}
+use Rattle.fem_text.specs.Written.{line_of}
+use Rattle.matrix_market.specs.Texts.{size_line, entry_line, unit_line, matrix_front, matrix_text}
+use Rattle.matrix_market.specs.Lines.{banner_line, matrix_size, from_zero, index_at, value_at, matrix_entry}
 use Rattle.matrix_market.specs.Market.{MatrixText, matrix_form}
 use Rattle.matrix_market.specs.ReadBack.{IsReadable}
-use Rattle.matrix_market.proofs.Plain.{AreWords, words_of_line, line_has_words, line_is_shown}
-use Rattle.matrix_market.proofs.TextLines.{IsLine, AreLines}
-use Rattle.matrix_market.proofs.Decimals.{decimal_digits, decimal_word, signed_word, no_first_mark, id_of_decimal, count_of_decimal, value_of_signed}
+use Rattle.fem_text.proofs.WrittenWords.{AreWords, words_of_line, line_has_words, line_is_shown}
+use Rattle.fem_text.proofs.WrittenLines.{IsLine, AreLines}
+use Rattle.fem_text.proofs.Decimals.{decimal_digits, decimal_word, signed_word, no_first_mark, id_of_decimal}
+use Rattle.matrix_market.proofs.Decimals.{count_of_decimal, value_of_signed}
 use Rattle.matrix_market.proofs.ReadBack.{GiveBack, IsText, says_back}
 
 -- an entry within the size, with a value in range

@@ -9,7 +9,8 @@ use Rattle.matrix_market.specs.declared.fault.MarketKind.{MarketKind}
 use Rattle.matrix_market.specs.declared.fault.MarketKind.TheVariants as kinds
 use Rattle.matrix_market.specs.declared.size.MatrixSize.{MatrixSize}
 use Rattle.matrix_market.specs.Values.{count_of, value_of}
-use Rattle.matrix_market.specs.Lines.{this_word, matrix_size, vector_size, index_at, value_at, matrix_entry, vector_entry}
+use Rattle.fem_text.specs.Words.{this_word}
+use Rattle.matrix_market.specs.Lines.{matrix_size, vector_size, index_at, value_at, matrix_entry, vector_entry}
 use Rattle.matrix_market.specs.Market.{Form, FaultIn, in_banner, in_size, in_entries, in_rest, from_size, from_entries, matrix_form, vector_form}
 
 -- it isn't that memory ran out

@@ -1,19 +1,6 @@
 -- Texts that are written piece by piece.
-use Rattle.std.proofs.Common.{◌≡◌, ◌∙◌, sym, ap, refl, ℕ, ℤ, ◌+◌, ◌-◌, ◌^◌, ◌≤◌, min, List, [], ◌∷◌, ◌++◌, length, append_assoc, append-nil, length-append, arith, ◌⊎◌, inl, inr}
-use Rattle.std.proofs.lemmas.List.Concat.{flat_map-append}
-use Rattle.matrix_market.specs.Texts.{text_of}
+use Rattle.std.proofs.Common.{◌≡◌, ◌∙◌, sym, ap, refl, ℕ, ℤ, ◌+◌, ◌-◌, ◌^◌, ◌≤◌, min, List, [], ◌∷◌, ◌++◌, length, append-nil, arith, ◌⊎◌, inl, inr}
 use Rattle.matrix_market.specs.Parts.{row_text}
-
--- lines behind a text and lines behind those are all these lines behind the text
-pub text_joins : (text : List ℕ) (lines more : List (List ℕ)) → (text ++ text_of lines) ++ text_of more ≡ text ++ text_of (lines ++ more)
-text_joins text lines more =
-    append_assoc text (text_of lines) (text_of more) ∙ ap (λ tail. text ++ tail) (sym (flat_map-append (λ line. line ++ 10 ∷ []) lines more))
-
--- where there is room for all lines, there is for the first ones
-pub room_joins : (text : List ℕ) (lines more : List (List ℕ)) (room : ℕ) → length (text ++ text_of (lines ++ more)) ≤ room → length (text ++ text_of lines) ≤ room
-room_joins text lines more room h =
-    let all : length ((text ++ text_of lines) ++ text_of more) ≡ length (text ++ text_of (lines ++ more)) = ap length (text_joins text lines more) in
-    omega (arith, all, length-append (text ++ text_of lines) (text_of more))
 
 -- a row ends where its columns or its values end
 pub row_ends : (i : ℕ) (columns : List ℕ) (values : List ℤ) → (columns ≡ []) ⊎ (values ≡ []) → row_text i columns values ≡ []

@@ -8,10 +8,11 @@ use Rattle.fem_text.specs.WordLines.{Line, Lines, numbered, behind, text_lines, 
 use Rattle.fem_text.specs.Reading.{outcome, ReadsAll}
 use Rattle.matrix_market.specs.declared.fault.MarketKind.{MarketKind}
 use Rattle.matrix_market.specs.declared.fault.MarketKind.TheVariants.{TooFew}
-use Rattle.matrix_market.specs.Texts.{text_of, unit_line}
+use Rattle.fem_text.specs.Written.{text_of}
+use Rattle.matrix_market.specs.Texts.{unit_line}
 use Rattle.matrix_market.specs.Lines.{banner_line}
 use Rattle.matrix_market.specs.Market.{Form, Says, from_size, from_entries}
-use Rattle.matrix_market.proofs.TextLines.{AreLines, counted_lines}
+use Rattle.fem_text.proofs.WrittenLines.{AreLines, counted_lines}
 
 -- the line of each entry gives it back
 abbrev pub GiveBack : {X : Type 0} → (List (List ℕ) → Result X MarketKind) → (X → List ℕ) → List X → Type 0

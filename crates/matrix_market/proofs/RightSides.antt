@@ -7,13 +7,14 @@ use Rattle.std.specs.Int.RustNames.{FitsSigned}
 use Rattle.std.proofs.lemmas.List.Elements.{All-head, All-tail}
 use Rattle.fem_text.specs.Lines.{words_of}
 use Rattle.fem_text.specs.WordLines.{starts_with}
-use Rattle.fem_text.specs.Words.{id_at}
+use Rattle.fem_text.specs.Words.{id_at, this_word}
 use Rattle.matrix_market.specs.Texts.{vector_size_line, vector_front, vector_text}
-use Rattle.matrix_market.specs.Lines.{this_word, banner_line, vector_size, value_at, vector_entry}
+use Rattle.matrix_market.specs.Lines.{banner_line, vector_size, value_at, vector_entry}
 use Rattle.matrix_market.specs.Market.{VectorText, vector_form}
-use Rattle.matrix_market.proofs.Plain.{AreWords, words_of_line, line_has_words, line_is_shown}
-use Rattle.matrix_market.proofs.TextLines.{IsLine, AreLines}
-use Rattle.matrix_market.proofs.Decimals.{decimal_digits, decimal_word, signed_word, no_first_mark, id_of_decimal, value_of_signed}
+use Rattle.fem_text.proofs.WrittenWords.{AreWords, words_of_line, line_has_words, line_is_shown}
+use Rattle.fem_text.proofs.WrittenLines.{IsLine, AreLines}
+use Rattle.fem_text.proofs.Decimals.{decimal_digits, decimal_word, signed_word, no_first_mark, id_of_decimal}
+use Rattle.matrix_market.proofs.Decimals.{value_of_signed}
 use Rattle.matrix_market.proofs.ReadBack.{GiveBack, IsText, says_back}
 use Rattle.matrix_market.proofs.Matrices.{unit_is_line}
 

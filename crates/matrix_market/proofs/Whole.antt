@@ -6,9 +6,10 @@ use Rattle.std.proofs.lemmas.List.{length-map}
 use Rattle.std.proofs.lemmas.Grind.{common_steps}
 use Rattle.sparsity.specs.declared.rows.Row.{Row}
 use Rattle.matrix_market.specs.Entries.{entries_of, right_sides}
-use Rattle.matrix_market.specs.Texts.{text_of, entry_line, matrix_front, matrix_text, vector_front, vector_text, pair_lines, pattern_front, pattern_text}
+use Rattle.fem_text.specs.Written.{text_of}
+use Rattle.matrix_market.specs.Texts.{entry_line, matrix_front, matrix_text, vector_front, vector_text, pair_lines, pattern_front, pattern_text}
 use Rattle.matrix_market.specs.Parts.{size_of, rows_text, pairs_text, values_text}
-use Rattle.matrix_market.proofs.Pieces.{text_joins, room_joins}
+use Rattle.fem_text.proofs.Joined.{text_joins, room_joins}
 
 pub record IsWhole (front lines : List (List ℕ)) (whole : List ℕ) : Type 0 where
   pub is : whole ≡ text_of (front ++ lines)

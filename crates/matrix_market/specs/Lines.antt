@@ -1,19 +1,12 @@
 -- The lines of a text that is read, by their words.
 use Rattle.std.specs.Prelude.{ℕ, ◌-◌, List, codes, ℤ, ◌&&◌, nat_lt, nat_le, if◌then◌else◌, Ok, Err}
 use Rattle.std.specs.declared.result.Result.{Result}
-use Rattle.std.specs.Str.{bytes_eq}
-use Rattle.fem_text.specs.Words.{◌>>=◌, or_fault, unless, exactly, word_at, id_at}
+use Rattle.fem_text.specs.Words.{◌>>=◌, or_fault, exactly, word_at, this_word, id_at}
 use Rattle.matrix_market.specs.declared.fault.MarketKind.{MarketKind}
 use Rattle.matrix_market.specs.declared.fault.MarketKind.TheVariants as kinds
 use Rattle.matrix_market.specs.declared.size.MatrixSize.{MatrixSize}
 use Rattle.matrix_market.specs.Entries.{Triple}
 use Rattle.matrix_market.specs.Values.{count_of, value_of}
-
--- this very word stands at a place
-unfoldable pub this_word : MarketKind → List ℕ → List (List ℕ) → ℕ → Result (Unit {0}) MarketKind
-this_word kind wanted words place = do
-  word ← word_at kind words place
-  unless kind (bytes_eq word wanted)
 
 -- the five words of a banner, of this format
 unfoldable pub banner_line : List ℕ → List (List ℕ) → Result (Unit {0}) MarketKind

@@ -2,7 +2,8 @@
 use Rattle.std.specs.Prelude.{ℕ, ◌^◌, ◌-◌, ℤ, List, length, map, min}
 use Rattle.std.specs.Fmt.{signed_decimal}
 use Rattle.matrix_market.specs.Entries.{row_entries, entries_from}
-use Rattle.matrix_market.specs.Texts.{text_of, entry_line, pair_line, pair_lines}
+use Rattle.fem_text.specs.Written.{text_of}
+use Rattle.matrix_market.specs.Texts.{entry_line, pair_line, pair_lines}
 
 -- the entries of a row
 abbrev pub row_text : ℕ → List ℕ → List ℤ → List ℕ

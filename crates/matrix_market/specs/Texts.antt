@@ -1,16 +1,9 @@
 -- The written texts, in the Matrix Market exchange format.
 use Rattle.std.specs.Prelude.{ℕ, ◌+◌, ℤ, List, [], ◌∷◌, ◌++◌, length, map, codes, decimal}
 use Rattle.std.specs.Fmt.{signed_decimal}
-use Rattle.std.specs.List.{concat, flat_map, join_with_byte}
+use Rattle.std.specs.List.{concat}
+use Rattle.fem_text.specs.Written.{text_of, line_of}
 use Rattle.matrix_market.specs.Entries.{Triple, entries_of}
-
--- the lines one behind the other, each with a byte 10 at its end
-abbrev pub text_of : List (List ℕ) → List ℕ
-text_of lines = flat_map (λ line. line ++ 10 ∷ []) lines
-
--- words with a blank between each two
-abbrev pub line_of : List (List ℕ) → List ℕ
-line_of words = join_with_byte 32 words
 
 -- values are in units of 2^-32
 abbrev pub unit_line : List ℕ

@@ -1,10 +1,11 @@
 ghost use Rattle.std.specs.Prelude.{◌≡◌, ◌≤◌, ◌++◌, ℕ, List, [], length, vec_capacity, IfOk};
 ghost use Rattle.std.specs.Prelude.{◌∷◌};
 ghost use Rattle.matrix_market.specs.Parts.{size_of};
-ghost use Rattle.matrix_market.specs.Texts.{text_of, size_line};
+ghost use Rattle.fem_text.specs.Written.{text_of};
+ghost use Rattle.matrix_market.specs.Texts.{size_line};
 
 use fem_fixed::NoMemory;
-use itoa::{Buffer, Integer};
+use fem_text::append_number;
 use std::alloc::Global;
 
 /// An empty text with room for this many bytes. So many are more than memory has where a word can't tell.
@@ -16,26 +17,6 @@ pub(crate) fn reserve(alloc: Global, size: usize) -> Result<Vec<u8>, NoMemory>
         return Err(NoMemory);
     }
     Ok(Vec::with_capacity(alloc, size)?)
-}
-
-/// Adds bytes for which there is room.
-pub(crate) fn append(text: &mut Vec<u8>, bytes: &[u8])
-    requires { length (text.old.items ++ bytes.now) ≤ vec_capacity text.old }
-    ensures items { text.new.items ≡ text.old.items ++ bytes.now }
-    ensures room { vec_capacity text.old ≤ vec_capacity text.new }
-{
-    let _ = text.extend_from_slice(bytes);
-}
-
-/// Adds a number and what stands behind it, for which there is room.
-pub(crate) fn append_number<I: Integer>(text: &mut Vec<u8>, number: I, behind: &[u8])
-    requires { length (text.old.items ++ (I.text number ++ behind.now)) ≤ vec_capacity text.old }
-    ensures items { text.new.items ≡ text.old.items ++ (I.text number ++ behind.now) }
-    ensures room { vec_capacity text.old ≤ vec_capacity text.new }
-{
-    let mut buffer = Buffer::new();
-    append(text, buffer.format(number).as_bytes());
-    append(text, behind);
 }
 
 /// Adds the size line of a square matrix.

@@ -3,9 +3,8 @@ ghost use Rattle.fem_text.specs.WordLines.{behind};
 ghost use Rattle.matrix_market.specs.Lines as expected;
 ghost use Rattle.matrix_market.specs.Market.{HasBanner, NoBanner, Follows};
 
-use crate::words::this_word;
 use crate::{MarketFault, MarketKind};
-use fem_text::{LineWords, WordLines, exactly};
+use fem_text::{LineWords, WordLines, exactly, this_word};
 
 const NO_BANNER: MarketFault = MarketFault {
     kind: MarketKind::Banner,

@@ -14,8 +14,6 @@ mod pattern_writer;
 mod push;
 mod size;
 mod sizes;
-#[cfg(test)]
-mod tests;
 mod triples;
 mod values;
 mod vector_reader;

@@ -1,11 +1,13 @@
 ghost use Rattle.std.specs.Prelude.{◌≡◌, ◌≤◌, ◌++◌, ◌∷◌, [], length, vec_capacity, IfOk};
-ghost use Rattle.matrix_market.specs.Texts.{text_of, pair_line};
+ghost use Rattle.fem_text.specs.Written.{text_of};
+ghost use Rattle.matrix_market.specs.Texts.{pair_line};
 ghost use Rattle.matrix_market.specs.Texts as written;
 ghost use Rattle.matrix_market.specs.Parts.{row_pairs_text, pairs_text, size_of};
 
-use crate::append::{append, append_number, append_size_line, reserve};
+use crate::append::{append_size_line, reserve};
 use crate::sizes::{pair_size, size_line_size};
 use fem_fixed::NoMemory;
+use fem_text::{append, append_number};
 use sparsity::Pattern;
 use std::alloc::Global;
 

@@ -5,9 +5,8 @@ ghost use Rattle.fem_text.specs.Reading.{outcome, IsFault};
 ghost use Rattle.matrix_market.specs.Lines as expected;
 
 use crate::values::read_count;
-use crate::words::this_word;
 use crate::{MarketFault, MarketKind};
-use fem_text::{LineWords, WordLines, at_line, exactly, id_at};
+use fem_text::{LineWords, WordLines, at_line, exactly, id_at, this_word};
 
 /// How many rows, columns and entries a matrix has.
 #[derive(Clone, Copy)]

@@ -1,6 +1,7 @@
 ghost use Rattle.std.specs.Prelude.{◌≡◌, ◌≤◌, ◌∷◌, [], length, decimal};
 ghost use Rattle.std.specs.Fmt.{signed_decimal};
-ghost use Rattle.matrix_market.specs.Texts.{text_of, size_line, entry_line, pair_line};
+ghost use Rattle.fem_text.specs.Written.{text_of};
+ghost use Rattle.matrix_market.specs.Texts.{size_line, entry_line, pair_line};
 
 /// How many digits a number has.
 pub(crate) fn digits(number: u128) -> usize

@@ -1,13 +1,15 @@
 ghost use Rattle.std.specs.Prelude.{◌≡◌, ◌≤◌, ◌++◌, ◌∷◌, ◌<◌, [], length, pos, slice_index_or, vec_capacity, IfOk};
 ghost use Rattle.std.specs.Fmt.{signed_decimal};
 ghost use Rattle.matrix_market.specs.Entries.{right_sides};
-ghost use Rattle.matrix_market.specs.Texts.{text_of, vector_size_line};
+ghost use Rattle.fem_text.specs.Written.{text_of};
+ghost use Rattle.matrix_market.specs.Texts.{vector_size_line};
 ghost use Rattle.matrix_market.specs.Texts as written;
 ghost use Rattle.matrix_market.specs.Parts.{values_text, size_of};
 
-use crate::append::{append, append_number, reserve};
+use crate::append::reserve;
 use crate::sizes::{digits, width};
 use fem_fixed::NoMemory;
+use fem_text::{append, append_number};
 use sparsity::Rows;
 use std::alloc::Global;
 

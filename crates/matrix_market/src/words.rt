@@ -5,22 +5,6 @@ use crate::MarketKind;
 use crate::values::read_value;
 use fem_text::{LineWords, id_at};
 
-/// Whether this very word stands at a place.
-#[tactic(auto, unfolding(crate::specs::Lines::this_word))]
-pub(crate) fn this_word(
-    kind: MarketKind,
-    wanted: &[u8],
-    words: &LineWords,
-    place: u32,
-) -> Result<(), MarketKind>
-    ensures { result ≡ expected.this_word kind wanted.now words.now place }
-{
-    match words.word(place) {
-        Some(word) if word == wanted => Ok(()),
-        _ => Err(kind),
-    }
-}
-
 /// The index that stands at a place, from 0; in the text it counts from 1.
 #[tactic(auto, unfolding(crate::specs::Lines::index_at))]
 pub(crate) fn index_at(size: u32, words: &LineWords, place: u32) -> Result<u32, MarketKind>

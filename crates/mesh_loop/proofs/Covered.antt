@@ -1,5 +1,5 @@
 -- The rows that a cell writes are those to which it contributes.
-use Rattle.std.proofs.Common.{◌≡◌, ◌∙◌, sym, ap, subst, refl, ℕ, ◌+◌, ◌<◌, inl, inr, Bool, true, false, ◌==◌, List, [], ◌∷◌, ◌++◌, length, map, arith, cond, slice_index_or, Some, None, Ok, Err}
+use Rattle.std.proofs.Common.{◌≡◌, ◌∙◌, sym, ap, subst, refl, ℕ, ◌+◌, ◌^◌, ◌<◌, ◌≤◌, inl, inr, Bool, true, false, ◌==◌, List, [], ◌∷◌, ◌++◌, length, map, arith, cond, slice_index_or, Some, None, Ok, Err}
 use Rattle.std.specs.Prelude.{filter, IfOk}
 use Rattle.std.specs.List.{All, flat_map, range_with_len, list_any}
 use Rattle.std.specs.declared.option.Option.{Option}
@@ -29,6 +29,7 @@ use Rattle.sparsity.proofs.Listing.{rows_count}
 use Rattle.mesh_loop.specs.Setup.{MeshProblem, IsMatched, cell_visits, masters_of, visit_rows, coupled_dofs, pattern_of, written_rows}
 use Rattle.mesh_loop.specs.Parts.{IsVisitBelow, IsCellFit}
 use Rattle.mesh_loop.specs.Sum.{part_of, IsWritten}
+use Rattle.mesh_loop.specs.Limits.{IsWithinLimits}
 use Rattle.mesh_loop.proofs.Holding.{any_flat, has_below, has_kept, has_range, has_master, size_is}
 use Rattle.mesh_loop.proofs.Held.{cell_held}
 
@@ -174,3 +175,13 @@ pub all_written : (s now : MeshProblem) → s ≡ now → IsMatched s → ((c : 
 all_written s now view matched fit forms =
     let P : MeshProblem → Type 0 = λ t. (cell : ℕ) → cell < length t.given.forest.cells → IsWritten t cell in
     subst P view (λ cell within. cell_is_written s cell matched (fit cell within) within forms)
+
+pub within_limits : (s now : MeshProblem) → s ≡ now → IsMatched s → ((c : ℕ) → c < length s.given.forest.cells → IsCellFit s c) → AreClosedForms s.closed → length s.given.forest.cells ≤ 2 ^ 20 → IsWithinLimits now
+within_limits s now view matched fit forms few =
+    subst IsWithinLimits view (record {
+      lines = matched.lines;
+      forms = forms;
+      cells = few;
+      visits = λ cell within. (fit cell within).fit.few;
+      blocks = λ cell within. cell_each IsBlock s cell (λ k v h. ((fit cell within).below k v h).block);
+    })

@@ -11,7 +11,8 @@ use Rattle.affine_constraints.specs.Lines.{AffineLine, Lines, IsTerm}
 use Rattle.block_sums.specs.Masters.{masters, itself}
 use Rattle.block_sums.proofs.Values.{free_masters, line_masters}
 use Rattle.corner_names.specs.Cells.{face_start, face_end}
-use Rattle.dof_numbers.specs.Dofs.{Numbering, IsNumberingOf}
+use Rattle.dof_numbers.specs.Dofs.{Numbering, IsNumberingOf, cell_dof}
+use Rattle.dof_numbers.proofs.Every.{four_each}
 use Rattle.dof_numbers.proofs.Rows.{dofs_of_corners}
 use Rattle.hanging_refine.specs.Refined.{RefinedMesh}
 use Rattle.cell_blocks.specs.Blocks.{Given, dofs_of, end_dofs}
@@ -75,7 +76,7 @@ pub cell_below : (forest : RefinedMesh) (dofs : Numbering) (cell : ℕ) (row : L
     All (λ d. d < dofs.size) (slice_index_or dofs.cells cell [])
 cell_below forest dofs cell row numbered within is four k d h =
     let few : k < 4 = omega (arith, h, ap length is, four) in
-    let low = (dofs_of_corners forest dofs numbered).below cell k within few in
+    let low = (dofs_of_corners forest dofs numbered).below cell k within (omega (arith, few, four_each dofs.degree numbered.degree)) in
     let P : ℕ → Type 0 = λ n. n < dofs.size in
     subst P (get_or_default (slice_index_or dofs.cells cell []) k 0 d h) low
 
@@ -88,7 +89,8 @@ end_small face = grind arith
 pub ends_below : (given : Given) (cell face : ℕ) → IsNumberingOf given.forest given.dofs → cell < length given.forest.cells → All (λ d. d < given.dofs.size) (end_dofs given cell face)
 ends_below given cell face numbered within =
     let P : ℕ → Type 0 = λ d. d < given.dofs.size in
-    let below = (dofs_of_corners given.forest given.dofs numbered).below in
+    let below : (v : ℕ) → v < 4 → cell_dof given.dofs cell v < given.dofs.size =
+    λ v few. (dofs_of_corners given.forest given.dofs numbered).below cell v within (omega (arith, few, four_each given.dofs.degree numbered.degree)) in
     let first : ℕ = slice_index (dofs_of given cell) (face_start face) in
     let last : ℕ = slice_index (dofs_of given cell) (face_end face) in
-    All-cons P first (last ∷ []) (below cell (face_start face) within (start_small face)) (All-cons P last [] (below cell (face_end face) within (end_small face)) (All-nil P))
+    All-cons P first (last ∷ []) (below (face_start face) (start_small face)) (All-cons P last [] (below (face_end face) (end_small face)) (All-nil P))

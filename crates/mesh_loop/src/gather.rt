@@ -172,7 +172,7 @@ fn push_cell_dofs(list: &mut Vec<u32>, source: &Source, cell: u32) -> Result<(),
     ensures value { OnOk result (list.new.items ≡ list.old.items ++ visit_dofs (shown source.now).given cell Visit.Cell) }
     ensures below { OnOk result (All (λ dof. dof < (shown source.now).given.dofs.size) (visit_dofs (shown source.now).given cell Visit.Cell)) }
 {
-    let dofs = source.setting.dofs.of_cell(cell);
+    let dofs = source.setting.cell_dofs(cell);
     list.extend_from_slice(&dofs)?;
     Ok(())
 }

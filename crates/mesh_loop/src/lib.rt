@@ -12,8 +12,6 @@ mod plan;
 mod serial;
 mod setup;
 mod source;
-#[cfg(test)]
-mod tests;
 mod written;
 
 pub use cell_blocks::{CellCopy, CellScratch};

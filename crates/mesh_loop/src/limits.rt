@@ -27,8 +27,8 @@ pub fn look_up(setting: &Setting, cell: u32, visit: Visit)
             here,
             there,
         } => {
-            let _dofs = setting.dofs.of_cell(cell);
-            let _others = setting.dofs.of_cell(other);
+            let _dofs = setting.cell_dofs(cell);
+            let _others = setting.cell_dofs(other);
         }
     }
 }
@@ -40,7 +40,7 @@ fn look_up_own(setting: &Setting, cell: u32)
     ensures block { IfOk (block_of (given setting.now) cell Visit.Cell) IsBlock }
     ensures some { 0 < length (visit_dofs (given setting.now) cell Visit.Cell) }
 {
-    let _dofs = setting.dofs.of_cell(cell);
+    let _dofs = setting.cell_dofs(cell);
     let _points = setting.forest.points(cell);
     let material = setting.forest.material(cell);
     let _source = setting.problem.source(material);

@@ -1,5 +1,7 @@
-ghost use Rattle.std.specs.Prelude.{◌≡◌, ◌<◌, ◌≤◌, ℕ, All, length, IfOk, IfErr, OnOk};
+ghost use Rattle.std.specs.Prelude.{◌≡◌, ◌<◌, ◌≤◌, ℕ, All, length, IfOk, IfErr, OnOk, MatchOption, IfSome, Some, None};
 ghost use Rattle.std.specs.List.Sorted.{IsStrictlyIncreasing};
+ghost use Rattle.affine_constraints.specs.Closing.{IsClosedForm};
+ghost use Rattle.affine_constraints.specs.Lines.{lines_in};
 ghost use Rattle.cell_blocks.specs.Blocks.{cell_blocks};
 ghost use Rattle.cell_blocks.specs.Visited.{blocks_in};
 ghost use Rattle.cell_sums.specs.Parts.{HoldsAll};
@@ -8,10 +10,11 @@ ghost use Rattle.sparsity.specs.Coupled.{pairs_of};
 ghost use Rattle.sparsity.specs.declared.fault.PatternFault.TheVariants.{Limit as AboveLimit};
 ghost use Rattle.mesh_loop.specs.Setup.{MeshProblem, cell_visits, coupled_dofs, pattern_of, written_rows, HoldsVisit};
 ghost use Rattle.mesh_loop.specs.Sum.{IsWritten};
+ghost use Rattle.mesh_loop.specs.Limits.{IsWithinLimits};
 
 use crate::gather::{Parts, make_parts};
 use crate::source::Source;
-use affine_constraints::Closed;
+use affine_constraints::{Closed, Term};
 use cell_blocks::{CellCopy, CellScratch, Setting, fill_blocks};
 use dof_numbers::Dofs;
 use hanging_refine::Forest;
@@ -47,7 +50,8 @@ impl Model for Setup {
 }
 
 impl Setup {
-    /// A set-up. It takes one pass over the cells, and the rows of the pattern are made in several threads.
+    /// A set-up, of dofs of degree 1. It takes one pass over the cells, and the rows of the pattern are made in
+    /// several threads.
     ///
     /// # Errors
     ///
@@ -61,21 +65,19 @@ impl Setup {
         problem: Problem,
         flags: Flags,
     ) -> Result<Setup, PatternFault>
+        requires degree { dofs.degree ≡ 1 }
         requires numbered { IsNumberingOf forest dofs }
         requires lines { length closed ≡ dofs.size }
         ensures value { IfOk result (λ setup. setup ≡ record { given = record { forest = forest; dofs = dofs; problem = problem }; closed = closed; flags = flags }) }
         ensures within { OnOk result (pairs_of (coupled_dofs (record { given = record { forest = forest; dofs = dofs; problem = problem }; closed = closed; flags = flags })) ≤ 33554432) }
         ensures limit { IfErr result (λ fault. fault ≡ AboveLimit → 33554432 < pairs_of (coupled_dofs (record { given = record { forest = forest; dofs = dofs; problem = problem }; closed = closed; flags = flags }))) }
     {
-        let source = Source {
-            setting: Setting {
-                forest: &forest,
-                dofs: &dofs,
-                problem: &problem,
-            },
-            closed: &closed,
-            flags,
+        let setting = Setting {
+            forest: &forest,
+            dofs: &dofs,
+            problem: &problem,
         };
+        let source = Source::new(setting, &closed, flags);
         let parts = make_parts(rt, alloc, &source)?;
         Ok(Setup {
             forest,
@@ -119,6 +121,23 @@ impl Setup {
         &self.parts.pattern
     }
 
+    /// How many dofs there are.
+    pub fn size(&self) -> u32
+        ensures { result ≡ self.now.given.dofs.size }
+    {
+        self.dofs.size()
+    }
+
+    /// The closed line of a dof: its terms, in rising order of dof, and its constant, in ticks of 2^-16. Nothing
+    /// where the dof is free.
+    pub fn line(&self, dof: u32) -> Option<(&[Term], i64)>
+        requires { dof < self.now.given.dofs.size }
+        ensures value { MatchOption result (lines_in self.now.closed dof ≡ None) (λ line. lines_in self.now.closed dof ≡ Some (record { terms = line.0.now; constant = line.1 })) }
+        ensures form { IfSome result (λ line. IsClosedForm self.now.closed (record { terms = line.0.now; constant = line.1 })) }
+    {
+        self.closed.line(dof)
+    }
+
     /// The closed lines.
     pub fn closed(&self) -> &Closed
         ensures { result.now ≡ self.now.closed }
@@ -131,6 +150,14 @@ impl Setup {
         ensures { (cell : ℕ) → cell < length self.now.given.forest.cells → IsWritten self.now cell }
     {
         let _size = self.closed.size();
+    }
+
+    /// The set-up is within the limits of its parts.
+    pub fn is_within_limits(&self)
+        ensures { IsWithinLimits self.now }
+    {
+        let _size = self.closed.size();
+        let _cells = self.forest.cells();
     }
 
     /// Makes the blocks of a cell. The copy object then stands for them, or for the fault of the first visit

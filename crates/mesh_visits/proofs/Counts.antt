@@ -9,8 +9,8 @@ use Rattle.corner_names.specs.Names.{Cell, Name, SamePair, name_size}
 use Rattle.corner_names.specs.Cells.{Corners, mid}
 use Rattle.corner_names.proofs.Distinct.{eq_true, bool_cases}
 use Rattle.corner_names.proofs.Across.{mid_one, nat_decides}
-use Rattle.forest_balance.proofs.Active.{or_true, not_true, clash}
-use Rattle.forest_balance.proofs.Cover.{pair_mid}
+use Rattle.corner_names.proofs.Active.{or_true, not_true, clash}
+use Rattle.corner_names.proofs.Cover.{pair_mid}
 use Rattle.hanging_refine.specs.Refined.{RefinedMesh, cell_at}
 use Rattle.hanging_refine.specs.Grown.{IsGrown}
 use Rattle.hanging_refine.specs.Coarse.{corner_at}

@@ -8,8 +8,8 @@ use Rattle.corner_names.specs.Names.{Name, SamePair}
 use Rattle.corner_names.specs.Cells.{Corners, mid}
 use Rattle.corner_names.proofs.Distinct.{eq_true}
 use Rattle.corner_names.proofs.Across.{mid_one, nat_decides}
-use Rattle.forest_balance.proofs.Active.{or_true, not_true, clash}
-use Rattle.forest_balance.proofs.Cover.{pair_mid}
+use Rattle.corner_names.proofs.Active.{or_true, not_true, clash}
+use Rattle.corner_names.proofs.Cover.{pair_mid}
 use Rattle.hanging_refine.specs.Refined.{RefinedMesh, cell_at}
 use Rattle.hanging_refine.specs.Grown.{IsGrown}
 use Rattle.hanging_refine.specs.Coarse.{corner_at}

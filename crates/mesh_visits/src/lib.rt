@@ -13,6 +13,3 @@ pub use flags::{Flags, Interior};
 pub use laws::visits_are_exact;
 pub use visit::Visit;
 pub use visits::make_visits;
-
-#[cfg(test)]
-mod tests;

@@ -3,7 +3,5 @@
 
 mod node_ids;
 mod sorted;
-#[cfg(test)]
-mod tests;
 
 pub use node_ids::NodeIds;

@@ -13,8 +13,6 @@ mod pipeline;
 mod rule;
 mod slots;
 mod steps;
-#[cfg(test)]
-mod tests;
 mod turn;
 mod view;
 

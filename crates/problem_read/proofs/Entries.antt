@@ -1,18 +1,17 @@
 -- What one more line adds.
-use Rattle.std.proofs.Common.{◌≡◌, ◌∙◌, sym, ap, refl, ℕ, List, ◌++◌, ◌∷◌, [], Bool, true, false, length, drop, inl, inr}
-use Rattle.std.specs.Prelude.{ℤ, Some, None, Ok, Err, OnOk, IfErr, not, nat_lt, is_some}
+use Rattle.std.proofs.Common.{◌≡◌, ◌∙◌, sym, ap, refl, ℕ, List, Bool, true, false, length, drop, inl, inr}
+use Rattle.std.specs.Prelude.{ℤ, Ok, Err, OnOk, IfErr, not, nat_lt, is_some}
 use Rattle.std.specs.declared.option.Option.{Option}
 use Rattle.std.specs.declared.result.Result.{Result}
 use Rattle.fem_fixed.specs.Numbers.{id_of}
 use Rattle.fem_text.specs.declared.fault.TextFault.{TextFault}
 use Rattle.fem_text.specs.Faults.{at_line}
 use Rattle.fem_text.proofs.OneReading.{err_same}
-use Rattle.fem_text.specs.Words.{◌>>=◌, or_fault, unless}
+use Rattle.fem_text.specs.Words.{◌>>=◌, or_fault, unless, all_of}
 use Rattle.problem_read.specs.declared.fault.ProblemKind.{ProblemKind}
 use Rattle.problem_read.specs.declared.fault.ProblemKind.TheVariants as kinds
 use Rattle.problem_read.specs.declared.keyword.Keyword.{Keyword}
 use Rattle.problem_read.specs.declared.keyword.Keyword.TheVariants as keywords
-use Rattle.problem_read.specs.Sums.{all_of}
 use Rattle.problem_read.specs.Entries.{Tie, Entry, ProblemParts, diffusion, source, robin, dirichlet, penalty, refine, constraint}
 use Rattle.problem_read.specs.Shapes.{keyword_at}
 use Rattle.problem_read.specs.EntryLine.{value_at, setting_of, two_settings_of, tie_at, numbers_of, is_listed, checked, entry_behind}

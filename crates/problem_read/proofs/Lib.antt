@@ -1,4 +1,3 @@
-mod FirstWord
 mod Sums
 mod ItemLists
 mod Entries

@@ -1,5 +1,5 @@
 -- Each line keeps the limits.
-use Rattle.std.proofs.Common.{◌≡◌, ◌∙◌, sym, ap, refl, subst, ℕ, zero, suc, ◌+◌, ◌<◌, ◌≤◌, ◌^◌, List, [], ◌∷◌, ◌++◌, Bool, true, false, length, drop, filter, get_or, nat_eq, arith, length-append, inl, inr}
+use Rattle.std.proofs.Common.{◌≡◌, ◌∙◌, sym, ap, refl, subst, ℕ, zero, suc, ◌+◌, ◌≤◌, ◌^◌, List, [], ◌∷◌, ◌++◌, Bool, true, false, length, drop, filter, nat_eq, arith, length-append, inl, inr}
 use Rattle.std.specs.Prelude.{ℤ, pos, unsigned_abs, All, IfSome, Some, None, Ok, Err, ◌&&◌, not, nat_lt, nat_le, if◌then◌else◌, unwrap_or}
 use Rattle.std.specs.declared.option.Option.{Option}
 use Rattle.std.specs.declared.result.Result.{Result}
@@ -7,11 +7,10 @@ use Rattle.std.specs.Map.{lookup}
 use Rattle.std.specs.List.{before_first, after_first, slice_get}
 use Rattle.std.proofs.lemmas.Bool.{cases_Bool}
 use Rattle.std.proofs.lemmas.List.Elements.{All-push}
-use Rattle.std.proofs.lemmas.Grind.{common_steps}
 use Rattle.fem_fixed.specs.Numbers.{id_of}
 use Rattle.fem_fixed.specs.Ticks.{number_of}
 use Rattle.fem_fixed.specs.declared.ticks.NumberFault.{NumberFault}
-use Rattle.fem_text.specs.Words.{◌>>=◌, or_fault, unless, id_at}
+use Rattle.fem_text.specs.Words.{◌>>=◌, or_fault, unless, id_at, with_first, all_of}
 use Rattle.fem_text.proofs.OneReading.{ok_same}
 use Rattle.fem_text.proofs.Values.{then_ok, passed, given, number_within}
 use Rattle.problem_read.specs.declared.fault.ProblemKind.{ProblemKind}
@@ -20,7 +19,7 @@ use Rattle.problem_read.specs.declared.keyword.Keyword.{Keyword}
 use Rattle.problem_read.specs.declared.keyword.Keyword.TheVariants as keywords
 use Rattle.problem_read.specs.declared.ties.TieTerm.{TieTerm}
 use Rattle.problem_read.specs.Entries.{Tie, Entry, ProblemParts, parts_of, diffusion, source, robin, dirichlet, penalty, refine, constraint}
-use Rattle.problem_read.specs.Sums.{is_star, is_term, is_constant, within, term_with, term_of, constant_of, with_first, all_of, last_or, Sum, sum_with, sum_of}
+use Rattle.problem_read.specs.Sums.{is_star, is_term, is_constant, within, term_with, term_of, constant_of, last_or, Sum, sum_with, sum_of}
 use Rattle.problem_read.specs.Shapes.{keyword_at}
 use Rattle.problem_read.specs.EntryLine.{value_at, setting_of, two_settings_of, tie_at, numbers_of, listed, repeats, has_room, checked, entry_behind}
 use Rattle.problem_read.specs.Limits.{IsSmall, IsLight, IsTieWithin, AreWithinLimits}

@@ -1,6 +1,6 @@
 -- What the lines so far say.
 use Rattle.std.proofs.Common.{◌≡◌, ◌∙◌, sym, ap, refl, subst, ℕ, List, [], ◌∷◌, ◌++◌, Bool, true, false, append-nil, inl, inr}
-use Rattle.std.specs.Prelude.{Some, None, Ok, Err, not, is_some, slice_get}
+use Rattle.std.specs.Prelude.{Some, Ok, not, is_some, slice_get}
 use Rattle.std.specs.List.{filter_map}
 use Rattle.std.proofs.lemmas.List.Elements.{filter_map-append}
 use Rattle.fem_text.specs.declared.fault.TextFault.{TextFault}

@@ -1,16 +1,15 @@
 -- What words give, one after another.
 use Rattle.std.proofs.Common.{◌≡◌, ◌∙◌, sym, ap, refl, ℕ, List, [], ◌∷◌, ◌++◌, Bool, true, false, append-nil, append_assoc, ◌⊎◌, inl, inr}
-use Rattle.std.specs.Prelude.{filter, ℤ, pos, Some, None, Ok, Err, unwrap_or, is_some}
+use Rattle.std.specs.Prelude.{filter, ℤ, pos, Some, None, Err, unwrap_or, is_some}
 use Rattle.std.specs.declared.option.Option.{Option}
-use Rattle.std.specs.declared.result.Result.{Result}
 use Rattle.std.proofs.lemmas.List.Elements.{filter-append}
-use Rattle.fem_text.specs.Words.{or_fault}
+use Rattle.fem_text.specs.Words.{or_fault, with_first, all_of}
 use Rattle.fem_text.proofs.OneReading.{err_same}
 use Rattle.fem_text.specs.declared.fault.TextFault.{TextFault}
 use Rattle.problem_read.specs.declared.fault.ProblemKind.{ProblemKind}
 use Rattle.problem_read.specs.declared.fault.ProblemKind.TheVariants.{Number}
 use Rattle.problem_read.specs.declared.ties.TieTerm.{TieTerm}
-use Rattle.problem_read.specs.Sums.{stars, is_plus, is_term, is_constant, term_of, constant_of, with_first, all_of, last_or, Sum, sum_with, sum_of}
+use Rattle.problem_read.specs.Sums.{is_term, is_constant, term_of, constant_of, last_or, sum_with, sum_of}
 use Rattle.problem_read.specs.Ties.{AddsPart, HasSum}
 use Rattle.problem_read.specs.Problem.{NoMemoryOr}
 use Rattle.problem_read.specs.Steps.{IsLineFault}

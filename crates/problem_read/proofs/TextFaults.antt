@@ -1,17 +1,17 @@
 -- No line has the kind of fault that says that memory ran out.
 use Rattle.std.proofs.Common.{ℕ, List, length, drop}
-use Rattle.std.specs.Prelude.{◌^◌, not, Some, Ok}
+use Rattle.std.specs.Prelude.{◌^◌, not, Some}
 use Rattle.std.specs.declared.result.Result.{Result}
 use Rattle.fem_fixed.specs.Numbers.{id_of}
-use Rattle.fem_text.specs.Words.{◌>>=◌}
+use Rattle.fem_text.specs.Words.{all_of}
 use Rattle.fem_text.specs.WordLines.{text_lines}
 use Rattle.fem_text.proofs.NeverKind.{Never, good, bind, of_option, of_test, of_word, of_id, of_number, no_fault}
 use Rattle.problem_read.specs.declared.fault.ProblemKind.{ProblemKind}
 use Rattle.problem_read.specs.declared.fault.ProblemKind.TheVariants as kinds
 use Rattle.problem_read.specs.declared.keyword.Keyword.{Keyword}
 use Rattle.problem_read.specs.declared.keyword.Keyword.TheVariants as keywords
-use Rattle.problem_read.specs.Entries.{Tie, Entry, ProblemParts, parts_of, diffusion, source, robin, dirichlet, penalty, refine, constraint}
-use Rattle.problem_read.specs.Sums.{all_of, sum_of}
+use Rattle.problem_read.specs.Entries.{Entry, ProblemParts, parts_of, diffusion, source, robin, dirichlet, penalty, refine, constraint}
+use Rattle.problem_read.specs.Sums.{sum_of}
 use Rattle.problem_read.specs.Shapes.{keyword_of, has_shape, keyword_at}
 use Rattle.problem_read.specs.EntryLine.{value_at, setting_of, two_settings_of, tie_at, numbers_of, repeats, has_room, checked, entry_behind, entry_line}
 use Rattle.problem_read.specs.Problem.{ProblemFaultAt}

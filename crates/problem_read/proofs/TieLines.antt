@@ -1,10 +1,9 @@
 -- What a constraint line adds to those that are held.
-use Rattle.std.proofs.Common.{◌≡◌, ◌∙◌, sym, ap, refl, ℕ, ◌+◌, ◌-◌, ◌≤◌, ◌^◌, suc, List, [], ◌∷◌, ◌++◌, true, length, map, take, drop, arith, length-append}
-use Rattle.std.specs.Prelude.{◌&&◌, ℤ, nat_lt, nat_le, Some, Ok, Err}
+use Rattle.std.proofs.Common.{◌≡◌, ◌∙◌, sym, ap, refl, ℕ, ◌+◌, ◌-◌, ◌≤◌, ◌^◌, suc, List, [], ◌∷◌, ◌++◌, true, length, take, drop, arith, length-append}
+use Rattle.std.specs.Prelude.{◌&&◌, ℤ, nat_lt, nat_le, Ok, Err}
 use Rattle.std.specs.declared.result.Result.{Result}
 use Rattle.std.proofs.lemmas.List.{map-append, length-map, length-drop, take-append-le, drop-append-le}
 use Rattle.std.proofs.Math.Seq.{drop-append_seam, take-length}
-use Rattle.fem_text.specs.declared.fault.TextFault.{TextFault}
 use Rattle.fem_text.specs.Faults.{at_line}
 use Rattle.fem_text.specs.Words.{◌>>=◌, or_fault, unless, id_at}
 use Rattle.fem_text.proofs.OneReading.{ok_same}

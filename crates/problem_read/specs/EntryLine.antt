@@ -1,16 +1,16 @@
 -- The lines of a problem text.
-use Rattle.std.specs.Prelude.{ℕ, ◌^◌, List, length, drop, Bool, true, false, ◌&&◌, not, nat_eq, nat_lt, nat_le, is_some, ℤ, Some, Ok}
+use Rattle.std.specs.Prelude.{ℕ, ◌^◌, List, length, drop, Bool, true, false, ◌&&◌, not, nat_eq, nat_lt, nat_le, is_some, ℤ, Ok}
 use Rattle.std.specs.declared.option.Option.{Option}
 use Rattle.std.specs.declared.result.Result.{Result}
 use Rattle.std.specs.Map.{lookup}
 use Rattle.fem_fixed.specs.Numbers.{id_of}
-use Rattle.fem_text.specs.Words.{◌>>=◌, or_fault, unless, id_at, number_at}
+use Rattle.fem_text.specs.Words.{◌>>=◌, or_fault, unless, id_at, number_at, all_of}
 use Rattle.problem_read.specs.declared.fault.ProblemKind.{ProblemKind}
 use Rattle.problem_read.specs.declared.fault.ProblemKind.TheVariants as kinds
 use Rattle.problem_read.specs.declared.keyword.Keyword.{Keyword}
 use Rattle.problem_read.specs.declared.keyword.Keyword.TheVariants as keywords
 use Rattle.problem_read.specs.Entries.{Tie, Entry, ProblemParts, parts_of, diffusion, source, robin, dirichlet, penalty, refine, constraint}
-use Rattle.problem_read.specs.Sums.{all_of, sum_of}
+use Rattle.problem_read.specs.Sums.{sum_of}
 use Rattle.problem_read.specs.Shapes.{keyword_at}
 
 -- the value at a place, of at most 2^31 ticks in size

@@ -1,5 +1,5 @@
 -- What lines look like, by their first word.
-use Rattle.std.specs.Prelude.{ℕ, List, ◌∷◌, [], length, drop, codes, Bool, false, ◌==◌, ◌&&◌, nat_lt, if◌then◌else◌, Some, None, Ok}
+use Rattle.std.specs.Prelude.{ℕ, List, ◌∷◌, [], length, codes, Bool, false, ◌==◌, ◌&&◌, nat_lt, if◌then◌else◌, Some, None, Ok}
 use Rattle.std.specs.declared.option.Option.{Option}
 use Rattle.std.specs.declared.result.Result.{Result}
 use Rattle.std.specs.Str.{bytes_eq}

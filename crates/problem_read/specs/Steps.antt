@@ -8,9 +8,8 @@ use Rattle.fem_text.specs.ReadingEvery.{ReadSoFar}
 use Rattle.problem_read.specs.declared.fault.ProblemKind.{ProblemKind}
 use Rattle.problem_read.specs.declared.fault.ProblemKind.TheVariants as kinds
 use Rattle.fem_fixed.specs.Numbers.{id_of}
-use Rattle.fem_text.specs.Words.{◌>>=◌, or_fault, unless}
-use Rattle.problem_read.specs.Sums.{all_of}
-use Rattle.problem_read.specs.Entries.{Tie, Entry, ProblemParts, parts_of, diffusion, source, robin, dirichlet, penalty, refine, constraint}
+use Rattle.fem_text.specs.Words.{◌>>=◌, or_fault, unless, all_of}
+use Rattle.problem_read.specs.Entries.{Entry, ProblemParts, parts_of, diffusion, source, robin, dirichlet, penalty, refine, constraint}
 use Rattle.problem_read.specs.EntryLine.{value_at, is_listed, entry_behind, entry_line}
 use Rattle.problem_read.specs.Limits.{AreWithinLimits}
 

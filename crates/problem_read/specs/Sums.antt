@@ -1,9 +1,10 @@
 -- The words on the right side of a constraint.
-use Rattle.std.specs.Prelude.{ℕ, ◌^◌, List, [], ◌∷◌, codes, filter, count_by, Bool, false, ◌==◌, ◌&&◌, ◌||◌, not, nat_le, if◌then◌else◌, ℤ, pos, unsigned_abs, Some, None, Ok, Err}
+use Rattle.std.specs.Prelude.{ℕ, ◌^◌, List, [], ◌∷◌, filter, count_by, Bool, false, ◌==◌, ◌&&◌, ◌||◌, not, nat_le, if◌then◌else◌, ℤ, pos, unsigned_abs, Some, None, Ok, Err}
 use Rattle.std.specs.declared.option.Option.{Option}
 use Rattle.std.specs.declared.result.Result.{Result}
 use Rattle.std.specs.List.{before_first, after_first}
 use Rattle.std.specs.Str.{bytes_eq}
+use Rattle.fem_text.specs.Words.{all_of}
 use Rattle.fem_fixed.specs.Numbers.{id_of}
 use Rattle.fem_fixed.specs.Ticks.{number_of}
 use Rattle.fem_fixed.specs.declared.ticks.NumberFault.{NumberFault}
@@ -48,15 +49,6 @@ term_of word = term_with (within (2 ^ 20) (number_of (before_first is_star word)
 -- the constant of a word: a number of at most 2^31 ticks
 unfoldable pub constant_of : List ℕ → Option ℤ
 constant_of word = within (2 ^ 31) (number_of word)
-
-abbrev pub with_first : {B : Type 0} → Option B → Option (List B) → Option (List B)
-with_first (Some y) (Some ys) = Some (y ∷ ys)
-with_first _ _ = None
-
--- what the items give, where each gives something
-abbrev pub all_of : {A B : Type 0} → (A → Option B) → List A → Option (List B)
-all_of f [] = Some []
-all_of f (x ∷ xs) = with_first (f x) (all_of f xs)
 
 -- the last one, or this where there is none
 abbrev pub last_or : ℤ → List ℤ → ℤ

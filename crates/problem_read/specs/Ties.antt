@@ -1,14 +1,14 @@
 -- How the constraints are held, and what a line adds to them.
-use Rattle.std.specs.Prelude.{◌≡◌, ◌++◌, ◌∷◌, [], ℕ, ◌+◌, ◌^◌, ◌<◌, ◌≤◌, ◌&&◌, List, ℤ, length, map, take, drop, filter, All, nat_lt, nat_le, Bool, Ok, Some}
+use Rattle.std.specs.Prelude.{◌≡◌, ◌++◌, ◌∷◌, [], ℕ, ◌+◌, ◌^◌, ◌≤◌, ◌&&◌, List, ℤ, length, map, take, drop, filter, All, nat_lt, nat_le, Bool, Ok, Some}
 use Rattle.std.specs.declared.result.Result.{Result}
 use Rattle.std.specs.List.{slice_get}
-use Rattle.fem_text.specs.Words.{◌>>=◌, unless}
+use Rattle.fem_text.specs.Words.{◌>>=◌, unless, all_of}
 use Rattle.problem_read.specs.declared.fault.ProblemKind.{ProblemKind}
 use Rattle.problem_read.specs.declared.fault.ProblemKind.TheVariants as kinds
 use Rattle.problem_read.specs.declared.ties.TieTerm.{TieTerm}
 use Rattle.problem_read.specs.declared.ties.TieLine.{TieLine}
 use Rattle.problem_read.specs.Entries.{Tie}
-use Rattle.problem_read.specs.Sums.{is_term, is_constant, term_of, constant_of, all_of, last_or, sum_of}
+use Rattle.problem_read.specs.Sums.{is_term, is_constant, term_of, constant_of, last_or, sum_of}
 use Rattle.problem_read.specs.EntryLine.{tie_at}
 
 -- the constraint of a line, with its terms among these

@@ -4,8 +4,7 @@ ghost use Rattle.problem_read.specs.Sums.{is_sum};
 
 use crate::ProblemKind;
 use crate::ties::{is_constant, is_term};
-use crate::words::Words;
-use fem_text::LineWords;
+use fem_text::{LineWords, WordsLeft};
 
 /// The first word of a line, which says what the line sets.
 #[derive(Clone, Copy)]
@@ -86,12 +85,12 @@ fn is_equation(words: &LineWords) -> bool
     ensures { result ≡ is_equation words.now }
 {
     match words.word(2) {
-        Some(word) if word == b"=".as_slice() => is_sum(Words::behind(words, 3)),
+        Some(word) if word == b"=".as_slice() => is_sum(WordsLeft::behind(words, 3)),
         _ => false,
     }
 }
 
-fn is_sum(mut words: Words) -> bool
+fn is_sum(mut words: WordsLeft) -> bool
     ensures { result ≡ is_sum words.entry }
 {
     while let Some(word) = words.next_word() {

@@ -7,10 +7,7 @@ mod lists;
 mod problem;
 mod reader;
 mod tables;
-#[cfg(test)]
-mod tests;
 mod ties;
-mod words;
 
 pub use fault::{ProblemFault, ProblemKind};
 pub use problem::Problem;

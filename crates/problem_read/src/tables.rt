@@ -1,7 +1,6 @@
 ghost use Rattle.std.specs.Prelude.{◌≡◌, ◌<◌, ◌≤◌, ◌++◌, ◌∷◌, [], length, drop, slice_index_or, false, Some, Ok, OnOk, OnErr, IfOk, IfErr};
 ghost use Rattle.fem_fixed.specs.Numbers.{id_of};
-ghost use Rattle.fem_text.specs.Words.{or_fault};
-ghost use Rattle.problem_read.specs.Sums.{all_of};
+ghost use Rattle.fem_text.specs.Words.{or_fault, all_of};
 ghost use Rattle.problem_read.specs.Held.{steps_in};
 ghost use Rattle.fem_text.specs.Lines.{words_of};
 ghost use Rattle.problem_read.specs.declared.fault.ProblemKind.{ProblemKind};
@@ -16,10 +15,9 @@ ghost use Rattle.problem_read.specs.Steps.{AddsEntry, AddsSetting, AddsPenalty, 
 use crate::keyword::{Keyword, keyword_at};
 use crate::lists::keep;
 use crate::ties::{TieTerm, Ties};
-use crate::words::Words;
 use crate::{ProblemFault, ProblemKind};
 use fem_fixed::{NoMemory, read_id};
-use fem_text::{LineWords, TextLine, at_line, id_at, number_at};
+use fem_text::{LineWords, TextLine, WordsLeft, at_line, id_at, number_at};
 use indexmap::IndexMap;
 use std::alloc::Global;
 use std::marker::Model;
@@ -274,7 +272,7 @@ fn read_cells(alloc: Global, line: &TextLine, words: &LineWords) -> Result<Vec<u
     ensures err { IfErr result (λ fault. NoMemoryOr fault (IsLineFault (or_fault ProblemKind.Number (all_of id_of (drop 1 words.now))) line.now.number fault)) }
 {
     let mut cells = Vec::new(alloc);
-    let mut left = Words::behind(words, 1);
+    let mut left = WordsLeft::behind(words, 1);
     while let Some(word) = left.next_word() {
         let Some(cell) = read_id(word) else {
             return at_line(Err(ProblemKind::Number), line);

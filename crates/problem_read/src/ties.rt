@@ -9,10 +9,9 @@ ghost use Rattle.problem_read.specs.declared.fault.ProblemKind.{ProblemKind};
 ghost use Rattle.problem_read.specs.Problem.{NoMemoryOr};
 
 use crate::lists::keep;
-use crate::words::Words;
 use crate::{ProblemFault, ProblemKind};
 use fem_fixed::{NoMemory, read_id, read_number};
-use fem_text::{LineWords, TextLine, at_line, id_at};
+use fem_text::{LineWords, TextLine, WordsLeft, at_line, id_at};
 use std::alloc::Global;
 use std::marker::Model;
 
@@ -132,7 +131,7 @@ fn read_sum(
     ensures grows { StartsWith terms.old.items terms.new.items }
 {
     let mut constant = None;
-    let mut left = Words::behind(words, 3);
+    let mut left = WordsLeft::behind(words, 3);
     while let Some(word) = left.next_word() {
         constant = add_part(terms, constant, word, line)?;
     }

@@ -2,8 +2,6 @@
 #![tactic(auto)]
 
 mod target;
-#[cfg(test)]
-mod tests;
 mod write;
 
 pub use target::Target;

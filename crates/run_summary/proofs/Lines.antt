@@ -3,8 +3,8 @@ use Rattle.std.proofs.Common.{◌≡◌, ◌∙◌, ap, ℕ, ℤ, List, [], ◌�
 use Rattle.std.specs.Prelude.{codes}
 use Rattle.std.specs.Fmt.{signed_decimal}
 use Rattle.std.specs.List.{concat}
-use Rattle.matrix_market.specs.Texts.{text_of}
-use Rattle.matrix_market.proofs.Pieces.{text_joins}
+use Rattle.fem_text.specs.Written.{text_of}
+use Rattle.fem_text.proofs.Joined.{text_joins}
 use Rattle.run_summary.specs.Summary.{number_line, diagonal_sum, matrix_sum, vector_sum, summary_text}
 
 -- a line more

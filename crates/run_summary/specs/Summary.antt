@@ -3,7 +3,7 @@ use Rattle.std.specs.Prelude.{ℕ, ◌+◌, ◌%◌, ◌^◌, ◌==◌, ◌≤�
 use Rattle.std.specs.Fmt.{signed_decimal}
 use Rattle.std.specs.List.{concat, enumerate_from}
 use Rattle.matrix_market.specs.Entries.{Triple, Fills, entries_of}
-use Rattle.matrix_market.specs.Texts.{line_of, text_of}
+use Rattle.fem_text.specs.Written.{line_of, text_of}
 
 -- the sum of numbers
 abbrev pub sum_of : List ℤ → ℤ

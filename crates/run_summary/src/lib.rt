@@ -6,8 +6,6 @@
 
 mod laws;
 mod sums;
-#[cfg(test)]
-mod tests;
 mod text;
 mod weighted;
 

@@ -1,6 +1,6 @@
 ghost use Rattle.std.specs.Prelude.{◌≡◌, ◌++◌, ◌∷◌, [], IfOk, OnOk};
 ghost use Rattle.matrix_market.specs.Entries.{right_sides, values_of};
-ghost use Rattle.matrix_market.specs.Texts.{line_of, text_of};
+ghost use Rattle.fem_text.specs.Written.{line_of, text_of};
 ghost use Rattle.run_summary.specs.Summary.{IsSummable};
 ghost use Rattle.run_summary.specs.Summary as written;
 

@@ -1,18 +1,23 @@
 // Tables of runs. Each has its words, parted by blanks, and the texts that the store holds under `mesh` and `problem`.
 
 use crate::texts::{
-    DIVIDED_MATRIX, DRAWN, DRAWN_MATRIX, DRAWN_PROBLEM, FLAT, GRID, GRID_COLORS, GRID_MATRIX,
-    GRID_PROBLEM, LENIENT_STRIP, LONG, SQUARE, SQUARE_ALONE, SQUARE_MATRIX, SQUARE_PATTERN,
-    SQUARE_ROBIN, SQUARE_SIDE, SQUARE_SUMMARY, STRIP, STRIP_MATRIX, TICK, TIED_SYSTEM, TINY,
+    DIVIDED_MATRIX, DRAWN, DRAWN_FOUR, DRAWN_FOUR_PROBLEM, DRAWN_MATRIX, DRAWN_PROBLEM, GRID,
+    GRID_COLORS, GRID_MATRIX, GRID_PROBLEM, LARGE, LARGE_PROBLEM, LARGE_SYSTEM, LENIENT_PROBLEM,
+    LENIENT_STRIP, LINED_STRIP, LINED_SYSTEM, LONG, MARKED_STRIP, OTHER_IDS, PLAIN_PROBLEM, SKEW,
+    SKEW_PROBLEM, SKEW_SYSTEM, SQUARE, SQUARE_ALONE, SQUARE_MATRIX, SQUARE_PATTERN, SQUARE_ROBIN,
+    SQUARE_SUMMARY, STRIP, STRIP_MATRIX, TIED_SYSTEM, TINY,
 };
 
 // The words of a run over the mesh alone, and over both texts.
 pub(crate) const MESH: &str = "--mesh mesh";
 
-const BOTH: &str = "--mesh mesh --problem problem";
+pub(crate) const BOTH: &str = "--mesh mesh --problem problem";
+
+// The same, with the right side behind the matrix.
+const SYSTEM: &str = "--mesh mesh --problem problem --rhs -";
 
 // Words, mesh, problem, and the text on standard output.
-pub(crate) const WRITTEN: [(&str, &str, &str, &str); 20] = [
+pub(crate) const WRITTEN: [(&str, &str, &str, &str); 26] = [
     (MESH, SQUARE, "", SQUARE_MATRIX),
     ("--mode serial --mesh mesh", SQUARE, "", SQUARE_MATRIX),
     (
@@ -50,29 +55,41 @@ pub(crate) const WRITTEN: [(&str, &str, &str, &str); 20] = [
     ),
     (BOTH, STRIP, "refine 1\n", DIVIDED_MATRIX),
     (
-        "--mesh mesh --problem problem --rhs -",
+        SYSTEM,
         STRIP,
         "refine 1\nconstraint 2 = 3\nconstraint 5 = 0.5*1 + 1\n",
         TIED_SYSTEM,
     ),
-    (
-        "--mesh mesh --problem problem --rhs -",
-        SQUARE,
-        "dirichlet 0 1\n",
-        SQUARE_ALONE,
-    ),
-    (
-        "--mesh mesh --problem problem --rhs -",
-        SQUARE,
-        "source 1 1\nrobin 0 1 2\n",
-        SQUARE_ROBIN,
-    ),
+    (SYSTEM, SQUARE, "dirichlet 0 1\n", SQUARE_ALONE),
+    (SYSTEM, SQUARE, "source 1 1\nrobin 0 1 2\n", SQUARE_ROBIN),
     ("--mesh mesh --mode pattern", SQUARE, "", SQUARE_PATTERN),
     ("--mesh mesh --mode colors", GRID, "", GRID_COLORS),
     ("--mesh mesh --summary", SQUARE, "", SQUARE_SUMMARY),
     ("--summary --mesh=mesh", SQUARE, "", SQUARE_SUMMARY),
     (BOTH, DRAWN, DRAWN_PROBLEM, DRAWN_MATRIX),
     ("--seed=0 --generate=1", "", "", DRAWN_MATRIX),
+    (MESH, OTHER_IDS, "", STRIP_MATRIX),
+    (
+        SYSTEM,
+        LENIENT_STRIP,
+        "refine 1\nconstraint 9 = 3\nconstraint 13 = 0.5*70 + 1\n",
+        TIED_SYSTEM,
+    ),
+    (SYSTEM, SKEW, SKEW_PROBLEM, SKEW_SYSTEM),
+    (SYSTEM, LARGE, LARGE_PROBLEM, LARGE_SYSTEM),
+    (
+        SYSTEM,
+        LINED_STRIP,
+        "dirichlet 7 1\ndirichlet 3 2\n",
+        LINED_SYSTEM,
+    ),
+    // (worked from the formats by another program)
+    (
+        "--mesh mesh --problem problem --summary",
+        LONG,
+        "diffusion 1 16384\nconstraint 2 = 16*1\nconstraint 6 = 16*1 + 1\n",
+        "cells 2\ndofs 8\nentries 26\ndiagonal 843737322625535289503680\nweighted 462796641222312646935312\nrhs -12593154107080824236744\n",
+    ),
 ];
 
 // Words, mesh, problem, and some of the lines on standard output.
@@ -121,278 +138,6 @@ pub(crate) const SOME_LINES: [(&str, &str, &str, &[&str]); 6] = [
     ),
 ];
 
-// Words, mesh, problem, status, and the line on the diagnostics. Nothing is written.
-pub(crate) const REFUSED: [(&str, &str, &str, u8, &str); 37] = [
-    (MESH, "", "", 3, "assemble: 3 MeshText line 1 TooFew\n"),
-    (
-        MESH,
-        "4 1 0 0 0\n1 0 0 0\n2 1 0 0\n3 1 1 0\n",
-        "",
-        3,
-        "assemble: 3 MeshText line 5 TooFew\n",
-    ),
-    (
-        MESH,
-        "1 0 0 0\n",
-        "",
-        3,
-        "assemble: 3 MeshText line 1 Header\n",
-    ),
-    (
-        MESH,
-        "1 0 0 0 0\n1 0 0\n",
-        "",
-        3,
-        "assemble: 3 MeshText line 2 NodeLine\n",
-    ),
-    (
-        MESH,
-        "1 0 0 0 0\n1 0 1024.0000152587890625 0\n",
-        "",
-        3,
-        "assemble: 3 MeshText line 2 Number\n",
-    ),
-    (
-        MESH,
-        "2 0 0 0 0\n1 0 0 0\n01 1 0 0\n",
-        "",
-        3,
-        "assemble: 3 MeshText line 3 DuplicateId\n",
-    ),
-    (
-        MESH,
-        "4 1 0 0 0\n1 0 0 0\n2 1 0 0\n3 1 1 0\n4 0 1 0\n1 1 tri 1 2 3\n",
-        "",
-        3,
-        "assemble: 3 MeshText line 6 UnsupportedType\n",
-    ),
-    (
-        MESH,
-        "4 1 0 0 0\n1 0 0 0\n2 1 0 0\n3 1 1 0\n4 0 1 0\n1 1 quad 1 2 3 9\n",
-        "",
-        3,
-        "assemble: 3 MeshText line 6 UnknownNode\n",
-    ),
-    (
-        MESH,
-        "4 1 0 0 0\n1 0 0 0\n2 1 0 0\n3 1 1 0\n4 0 1 0\n1 1 quad 1 2 3\n",
-        "",
-        3,
-        "assemble: 3 MeshText line 6 CellLine\n",
-    ),
-    (
-        MESH,
-        "1048577 0 0 0 0\n",
-        "",
-        9,
-        "assemble: 9 Limit MeshCount line 1\n",
-    ),
-    (
-        BOTH,
-        SQUARE,
-        "heat 1 1\n",
-        4,
-        "assemble: 4 ProblemText line 1 Word\n",
-    ),
-    (
-        BOTH,
-        SQUARE,
-        "# one\ndiffusion 1 32769\n",
-        4,
-        "assemble: 4 ProblemText line 2 Number\n",
-    ),
-    (
-        BOTH,
-        SQUARE,
-        "source 1 1\nsource 01 1\n",
-        4,
-        "assemble: 4 ProblemText line 2 Repeated\n",
-    ),
-    (
-        BOTH,
-        SQUARE,
-        "refine 0\nrefine 0\nrefine 0\nrefine 0\nrefine 0\nrefine 0\nrefine 0\nrefine 0\nrefine 0\nrefine 0\nrefine 0\nrefine 0\nrefine 0\nrefine 0\nrefine 0\nrefine 0\nrefine 0\nrefine 0\nrefine 0\nrefine 0\nrefine 0\nrefine 0\nrefine 0\nrefine 0\nrefine 0\nrefine 0\nrefine 0\nrefine 0\nrefine 0\nrefine 0\nrefine 0\nrefine 0\nrefine 0\n",
-        9,
-        "assemble: 9 Limit ProblemCount line 33\n",
-    ),
-    (
-        MESH,
-        "4 1 0 0 0\n1 0 0 0\n2 1 0 0\n3 1 1 0\n4 0 1 0\n1 1 quad 1 1 3 4\n",
-        "",
-        5,
-        "assemble: 5 Mesh RepeatedCorner 0\n",
-    ),
-    (
-        MESH,
-        "4 1 0 0 0\n1 0 0 0\n2 1 0 0\n3 1 1 0\n4 0 1 0\n1 1 quad 1 2 4 3\n",
-        "",
-        5,
-        "assemble: 5 Mesh ZeroArea 0\n",
-    ),
-    (
-        MESH,
-        "4 1 0 0 0\n1 0 0 0\n2 4 0 0\n3 1 1 0\n4 0 4 0\n1 1 quad 1 2 3 4\n",
-        "",
-        5,
-        "assemble: 5 Mesh NotConvex 0\n",
-    ),
-    (
-        MESH,
-        "4 3 0 0 0\n1 0 0 0\n2 1 0 0\n3 1 1 0\n4 0 1 0\n1 1 quad 1 2 3 4\n1 1 quad 1 2 3 4\n1 1 quad 1 2 3 4\n",
-        "",
-        5,
-        "assemble: 5 Mesh EdgeShared 2\n",
-    ),
-    (
-        MESH,
-        "4 2 0 0 0\n1 0 0 0\n2 1 0 0\n3 1 1 0\n4 0 1 0\n1 1 quad 1 2 3 4\n2 5 line 1 3\n",
-        "",
-        5,
-        "assemble: 5 Mesh LineOffEdge 0\n",
-    ),
-    (
-        MESH,
-        "4 3 0 0 0\n1 0 0 0\n2 1 0 0\n3 1 1 0\n4 0 1 0\n1 1 quad 1 2 3 4\n2 5 line 1 2\n3 6 line 2 1\n",
-        "",
-        5,
-        "assemble: 5 Mesh BoundaryTwice 1\n",
-    ),
-    (
-        BOTH,
-        STRIP,
-        "refine 1\nrefine 5\n",
-        5,
-        "assemble: 5 Mesh NoSuchCell 5\n",
-    ),
-    (BOTH, TICK, "refine 0\n", 5, "assemble: 5 Mesh Flat 0\n"),
-    (
-        BOTH,
-        SQUARE,
-        "refine 0\nrefine 0\nrefine 0\nrefine 0\nrefine 0\nrefine 0\nrefine 0\nrefine 0\nrefine 0\nrefine 0\nrefine 0\nrefine 0\nrefine 0\n",
-        9,
-        "assemble: 9 Limit Level\n",
-    ),
-    (
-        BOTH,
-        SQUARE,
-        "constraint 1 = 1*2\nconstraint 2 = 1*1\n",
-        6,
-        "assemble: 6 Constraint Cycle 0\n",
-    ),
-    (
-        BOTH,
-        SQUARE,
-        "dirichlet 0 1\nconstraint 1 = 0\n",
-        6,
-        "assemble: 6 Constraint Twice 0\n",
-    ),
-    (
-        BOTH,
-        SQUARE,
-        "constraint 1 = 1*17\n",
-        6,
-        "assemble: 6 Constraint UnknownNode 17\n",
-    ),
-    (
-        BOTH,
-        SQUARE,
-        "constraint 1 = 16*2\nconstraint 2 = 16*3\n",
-        6,
-        "assemble: 6 Constraint Weight 0\n",
-    ),
-    (
-        BOTH,
-        GRID,
-        "constraint 1 = 1*2 + 1*3 + 1*4 + 1*5 + 1*6 + 1*7 + 1*8 + 1*9 + 1*10 + 1*11 + 1*12 + 1*13 + 1*14 + 1*15 + 1*16 + 1*17 + 1*18\n",
-        9,
-        "assemble: 9 Limit ProblemCount line 1\n",
-    ),
-    (
-        BOTH,
-        GRID,
-        "constraint 1 = 1*2 + 1*3 + 1*4 + 1*5 + 1*6 + 1*7 + 1*8 + 1*9 + 1*10 + 1*11 + 1*12 + 1*13 + 1*14 + 1*15 + 1*16 + 1*17\nconstraint 2 = 1*18 + 1*19\n",
-        6,
-        "assemble: 6 Constraint Terms 0\n",
-    ),
-    (MESH, TINY, "", 7, "assemble: 7 Local cell 1 Distorted\n"),
-    (
-        BOTH,
-        FLAT,
-        "diffusion 1 32768\n",
-        7,
-        "assemble: 7 Local cell 0 Size\n",
-    ),
-    (
-        "--mesh mesh --mode colored",
-        TINY,
-        "",
-        7,
-        "assemble: 7 Local cell 2 Distorted\n",
-    ),
-    (
-        BOTH,
-        LONG,
-        "diffusion 1 32768\nconstraint 2 = 16*1\nconstraint 6 = 16*1\n",
-        8,
-        "assemble: 8 Sum cell 1 row 0\n",
-    ),
-    (
-        BOTH,
-        "",
-        "heat\n",
-        3,
-        "assemble: 3 MeshText line 1 TooFew\n",
-    ),
-    (
-        BOTH,
-        "4 1 0 0 0\n1 0 0 0\n2 1 0 0\n3 1 1 0\n4 0 1 0\n1 1 quad 1 1 3 4\n",
-        "heat\n",
-        4,
-        "assemble: 4 ProblemText line 1 Word\n",
-    ),
-    ("--mesh other", "", "", 17, "assemble: 17 Absent mesh\n"),
-    (
-        "--mesh mesh --problem other",
-        SQUARE,
-        "",
-        17,
-        "assemble: 17 Absent problem\n",
-    ),
-];
-
-// Words that ask for nothing.
-pub(crate) const NO_WORDS: [&str; 29] = [
-    "",
-    "--mesh a --workers 0",
-    "--mesh a --queue 257",
-    "--mesh a --mesh a",
-    "--mesh a --fast",
-    "--mesh a --help",
-    "--mesh - --problem -",
-    "--mesh a --sum",
-    "--mesh a --",
-    "a",
-    "--mesh",
-    "--mesh=",
-    "--mesh -a",
-    "--mesh a --generate 1",
-    "--generate 1 --problem a",
-    "--generate 0",
-    "--generate 513",
-    "--mesh a --seed 1",
-    "--mesh a --mode fast",
-    "--mesh a --matrix b --rhs b",
-    "--mesh a --rhs b --mode pattern",
-    "--mesh a --summary --mode colors",
-    "--mesh a --summary --matrix -",
-    "--mesh a --digits 65",
-    "--mesh a --summary=1",
-    "--generate 1 --seed 18446744073709551616",
-    "--mesh a --chunk 65",
-    "--mesh a --scratch 0",
-    "--mesh a --faces all",
-];
-
 // Words of runs that give the same text, mesh, problem, and a line of that text.
 pub(crate) const SAME: [(&[&str], &str, &str, &str); 3] = [
     (
@@ -433,230 +178,65 @@ pub(crate) const SAME: [(&[&str], &str, &str, &str); 3] = [
     ),
 ];
 
-// The numbers of the calls that are to fail, counted from 1; 0 where none is.
-#[derive(Clone, Copy)]
-pub(crate) struct Failing {
-    pub(crate) read: u64,
-    pub(crate) write: u64,
-    pub(crate) put: u64,
-    pub(crate) diagnostic: u64,
-}
+// Words, mesh and problem of runs that give the same text.
+pub(crate) const ALIKE: [[(&str, &str, &str); 2]; 2] = [
+    [
+        (
+            "--mesh mesh --problem problem --faces once --rhs -",
+            MARKED_STRIP,
+            PLAIN_PROBLEM,
+        ),
+        (
+            "--mesh mesh --problem problem --faces once --rhs -",
+            LENIENT_STRIP,
+            LENIENT_PROBLEM,
+        ),
+    ],
+    [
+        (
+            "--mesh mesh --problem problem --faces both --rhs -",
+            DRAWN_FOUR,
+            DRAWN_FOUR_PROBLEM,
+        ),
+        ("--generate 2 --seed 7 --faces both --rhs -", "", ""),
+    ],
+];
 
-pub(crate) const NO_FAULT: Failing = Failing {
-    read: 0,
-    write: 0,
-    put: 0,
-    diagnostic: 0,
-};
-
-// A run over the square with a source of 1 in which calls fail, and what stands afterwards: the status, what standard output
-// and the diagnostics took, the texts under the names `m` and `r`, and how many calls the store and standard output had.
-#[derive(Clone, Copy)]
-pub(crate) struct Faulty {
-    pub(crate) words: &'static str,
-    pub(crate) failing: Failing,
-    pub(crate) status: u8,
-    pub(crate) out: &'static str,
-    pub(crate) line: &'static str,
-    pub(crate) matrix: Option<&'static str>,
-    pub(crate) right_side: Option<&'static str>,
-    pub(crate) calls: u64,
-    pub(crate) puts: u64,
-}
-
-// A run that is refused before it reads; other runs that write nothing take their rest from it.
-const NOTHING: Faulty = Faulty {
-    words: "--mesh mesh --fast",
-    failing: NO_FAULT,
-    status: 2,
-    out: "",
-    line: "assemble: 2 Words\n",
-    matrix: None,
-    right_side: None,
-    calls: 0,
-    puts: 0,
-};
-
-// A run that writes the matrix of the square.
-const WELL: Faulty = Faulty {
-    words: BOTH,
-    failing: NO_FAULT,
-    status: 0,
-    out: SQUARE_MATRIX,
-    line: "",
-    matrix: None,
-    right_side: None,
-    calls: 2,
-    puts: 1,
-};
-
-const NAMED: &str = "--mesh mesh --problem problem --matrix m --rhs r";
-
-// Runs in which calls fail.
-pub(crate) const FAULTY: [Faulty; 16] = [
-    Faulty {
-        words: MESH,
-        failing: Failing {
-            read: 1,
-            ..NO_FAULT
-        },
-        status: 10,
-        line: "assemble: 10 ReadFault mesh\n",
-        calls: 1,
-        ..NOTHING
-    },
-    Faulty {
-        words: MESH,
-        failing: Failing {
-            read: 2,
-            ..NO_FAULT
-        },
-        calls: 1,
-        ..WELL
-    },
-    Faulty {
-        words: BOTH,
-        failing: Failing {
-            read: 2,
-            ..NO_FAULT
-        },
-        status: 10,
-        line: "assemble: 10 ReadFault problem\n",
-        calls: 2,
-        ..NOTHING
-    },
-    Faulty {
-        failing: Failing {
-            read: 3,
-            ..NO_FAULT
-        },
-        ..WELL
-    },
-    Faulty {
-        words: "--mesh empty --problem problem",
-        failing: Failing {
-            read: 2,
-            ..NO_FAULT
-        },
-        status: 3,
-        line: "assemble: 3 MeshText line 1 TooFew\n",
-        calls: 1,
-        ..NOTHING
-    },
-    Faulty {
-        words: "--generate 1",
-        failing: Failing {
-            read: 1,
-            ..NO_FAULT
-        },
-        out: DRAWN_MATRIX,
-        calls: 0,
-        ..WELL
-    },
-    Faulty {
-        failing: Failing {
-            read: 1,
-            ..NO_FAULT
-        },
-        ..NOTHING
-    },
-    Faulty {
-        failing: Failing {
-            diagnostic: 1,
-            ..NO_FAULT
-        },
-        line: "",
-        ..NOTHING
-    },
-    Faulty {
-        words: BOTH,
-        failing: Failing {
-            put: 1,
-            diagnostic: 1,
-            ..NO_FAULT
-        },
-        status: 11,
-        line: "",
-        calls: 2,
-        puts: 1,
-        ..NOTHING
-    },
-    Faulty {
-        failing: Failing {
-            write: 1,
-            put: 2,
-            diagnostic: 1,
-            ..NO_FAULT
-        },
-        ..WELL
-    },
-    Faulty {
-        words: NAMED,
-        failing: Failing {
-            write: 1,
-            ..NO_FAULT
-        },
-        status: 11,
-        line: "assemble: 11 WriteFault matrix\n",
-        calls: 3,
-        ..NOTHING
-    },
-    Faulty {
-        words: NAMED,
-        failing: Failing {
-            write: 2,
-            ..NO_FAULT
-        },
-        status: 11,
-        line: "assemble: 11 WriteFault rhs\n",
-        matrix: Some(SQUARE_MATRIX),
-        calls: 4,
-        ..NOTHING
-    },
-    Faulty {
-        words: NAMED,
-        failing: Failing {
-            write: 3,
-            put: 1,
-            ..NO_FAULT
-        },
-        out: "",
-        matrix: Some(SQUARE_MATRIX),
-        right_side: Some(SQUARE_SIDE),
-        calls: 4,
-        puts: 0,
-        ..WELL
-    },
-    Faulty {
-        words: "--mesh mesh --problem problem --matrix m --rhs -",
-        failing: Failing { put: 1, ..NO_FAULT },
-        status: 11,
-        line: "assemble: 11 WriteFault rhs\n",
-        matrix: Some(SQUARE_MATRIX),
-        calls: 3,
-        puts: 1,
-        ..NOTHING
-    },
-    Faulty {
-        words: "--mesh mesh --problem problem --rhs r",
-        failing: Failing {
-            write: 1,
-            ..NO_FAULT
-        },
-        status: 11,
-        out: SQUARE_MATRIX,
-        line: "assemble: 11 WriteFault rhs\n",
-        calls: 3,
-        puts: 1,
-        ..NOTHING
-    },
-    Faulty {
-        words: "--mesh mesh --problem problem --rhs r",
-        failing: Failing { put: 1, ..NO_FAULT },
-        status: 11,
-        line: "assemble: 11 WriteFault matrix\n",
-        calls: 2,
-        puts: 1,
-        ..NOTHING
-    },
+// Words that name the mode `ordered` and words that don't, the mesh, the status, the text on standard output and the line of
+// the diagnostics.
+pub(crate) const CHOSEN: [(&str, &str, u8, &str, &str); 10] = [
+    (MESH, SQUARE, 0, SQUARE_MATRIX, ""),
+    ("--mesh mesh --mode colored", GRID, 0, GRID_MATRIX, ""),
+    (
+        "--mesh mesh --mode ordered --workers 2",
+        SQUARE,
+        0,
+        SQUARE_MATRIX,
+        "",
+    ),
+    ("--mode=ordered --mesh=mesh", GRID, 0, GRID_MATRIX, ""),
+    (MESH, TINY, 7, "", "assemble: 7 Local cell 1 Distorted\n"),
+    (
+        "--mode ordered --mesh mesh",
+        TINY,
+        7,
+        "",
+        "assemble: 7 Local cell 1 Distorted\n",
+    ),
+    ("--mesh other", SQUARE, 17, "", "assemble: 17 Absent mesh\n"),
+    (
+        "--mesh other --mode ordered",
+        SQUARE,
+        17,
+        "",
+        "assemble: 17 Absent mesh\n",
+    ),
+    (
+        "--mesh ordered --mode",
+        SQUARE,
+        2,
+        "",
+        "assemble: 2 Words\n",
+    ),
+    ("--mode ordered", SQUARE, 2, "", "assemble: 2 Words\n"),
 ];

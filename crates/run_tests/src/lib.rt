@@ -2,10 +2,14 @@
 #![tactic(auto)]
 
 #[cfg(test)]
-mod blanks;
-#[cfg(test)]
 mod cases;
 #[cfg(test)]
+mod faults;
+#[cfg(test)]
+mod refusals;
+#[cfg(test)]
 mod runs;
+#[cfg(test)]
+mod stores;
 #[cfg(test)]
 mod texts;

@@ -1,11 +1,11 @@
 //! Runs over stores and sinks in memory. What they are to leave is worked by hand from the formats, or comes from
 //! another program where a comment says so.
-use crate::blanks::Blanks;
-use crate::cases::{
-    FAULTY, Failing, Faulty, MESH, NO_FAULT, NO_WORDS, REFUSED, SAME, SOME_LINES, WRITTEN,
-};
+use crate::cases::{ALIKE, BOTH, CHOSEN, MESH, SAME, SOME_LINES, WRITTEN};
+use crate::faults::{FAULTY, Failing, Faulty, NO_FAULT};
+use crate::refusals::{BAD_PROBLEMS, NO_WORDS, REFUSED};
+use crate::stores::{Blanks, Poor};
 use crate::texts::{GRID, GRID_MATRIX, SQUARE, SQUARE_MATRIX, TINY};
-use assemble_core::{run, run_plain};
+use assemble_core::{run, run_chosen, run_plain};
 use fem_text::{CleanStore, DropSink, MemorySink, MemoryStore, Store};
 use scratch_pool::OpenGate;
 use std::alloc::Global;
@@ -14,13 +14,15 @@ use std::sync::Wait;
 use std::test::Fail;
 use std::thread::Threads;
 
-// Which of the two calls is made.
+// Which call is made: one of the two, or that which chooses between them.
 #[derive(Clone, Copy)]
 enum Top {
     Plain,
     Waiting,
+    Chosen,
 }
 
+// The two calls.
 const TOPS: [Top; 2] = [Top::Plain, Top::Waiting];
 
 // What stands after a run.
@@ -106,6 +108,7 @@ fn call<R: Runtime + Threads + Wait + Sync, S: Store>(
     match top {
         Top::Plain => run_plain(rt, alloc, words, store, out, err, &OpenGate),
         Top::Waiting => run(rt, alloc, words, store, out, err, &OpenGate),
+        Top::Chosen => run_chosen(rt, alloc, words, store, out, err, &OpenGate),
     }
 }
 
@@ -191,11 +194,22 @@ fn the_first_fault_is_told_and_nothing_is_written(rt: HostRuntime) {
             "{line}"
         );
     }
+}
+
+#[test]
+fn words_that_ask_for_nothing_are_refused(rt: HostRuntime) {
     for words in NO_WORDS {
         assert!(rt;
             leaves(&rt, words, ("", ""), 2, "", "assemble: 2 Words\n"),
             "{words}"
         );
+    }
+}
+
+#[test]
+fn the_first_fault_of_a_problem_is_told(rt: HostRuntime) {
+    for (problem, line) in BAD_PROBLEMS {
+        assert!(rt; leaves(&rt, BOTH, (SQUARE, problem), 4, "", line), "{line}");
     }
 }
 
@@ -251,6 +265,25 @@ fn threads_give_the_same_text(rt: HostRuntime) -> Result<(), Fail> {
     Ok(())
 }
 
+// Whether two runs end well with the same text.
+fn are_alike<R: Runtime + AllocGlobal + Threads + Wait + Sync>(
+    rt: &R,
+    first: (&str, &str, &str),
+    second: (&str, &str, &str),
+) -> bool {
+    match run_over(rt, Top::Waiting, first.0, first.1, first.2) {
+        Some(after) => { after.status == 0 && agrees(rt, second.0, (second.1, second.2), &after) }
+        None => false,
+    }
+}
+
+#[test]
+fn texts_that_say_the_same_have_the_same_system(rt: HostRuntime) {
+    for [first, second] in ALIKE {
+        assert!(rt; are_alike(&rt, first, second), "{}", second.0);
+    }
+}
+
 // Whether a run that may wait leaves this.
 fn waits_and_leaves<R: Runtime + AllocGlobal + Threads + Wait + Sync>(
     rt: &R,
@@ -277,6 +310,31 @@ fn the_mode_ordered_is_for_a_run_that_may_wait(rt: HostRuntime) {
         assert!(rt; waits_and_leaves(&rt, words, TINY, 7, "", told));
         let after = run_over(&rt, Top::Plain, words, SQUARE, "");
         assert!(rt; after.is_some_and(|after| after.is(2, "", "assemble: 2 Words\n")));
+    }
+}
+
+// Whether the call that chooses leaves this.
+fn chooses_and_leaves<R: Runtime + AllocGlobal + Threads + Wait + Sync>(
+    rt: &R,
+    line: &str,
+    mesh: &str,
+    status: u8,
+    text: &str,
+    told: &str,
+) -> bool {
+    match run_over(rt, Top::Chosen, line, mesh, "") {
+        Some(after) => after.is(status, text, told),
+        None => false,
+    }
+}
+
+#[test]
+fn words_with_and_without_ordered_choose_their_call(rt: HostRuntime) {
+    for (words, mesh, status, text, told) in CHOSEN {
+        assert!(rt;
+            chooses_and_leaves(&rt, words, mesh, status, text, told),
+            "{words}"
+        );
     }
 }
 
@@ -311,6 +369,50 @@ fn a_call_that_fails_ends_the_run(rt: HostRuntime) {
             "number {i}: {}",
             case.words
         );
+    }
+}
+
+// Whether the diagnostics have the line of a run, or what stood of it before a put that failed, which was the last one.
+fn tells_its_line<R: Runtime + AllocGlobal + Threads + Wait + Sync>(
+    rt: &R,
+    words: &str,
+    line: &str,
+    diagnostic: u64,
+) -> bool {
+    let failing = Failing {
+        diagnostic,
+        ..NO_FAULT
+    };
+    match run_with(rt, Top::Plain, words, ("", ""), failing, 0) {
+        Some(after) => {
+            let counts = after.err.counts();
+            let told = after.err.taken();
+            if counts.calls < diagnostic {
+                told == line.as_bytes() && counts.faults == 0
+            } else {
+                line.as_bytes().starts_with(told)
+                    && told.len() < line.len()
+                    && counts.faults == 1
+                    && counts.failed_last
+            }
+        }
+        None => false,
+    }
+}
+
+#[test]
+fn a_put_to_the_diagnostics_that_fails_is_the_last_one(rt: HostRuntime) {
+    for diagnostic in 1..=16 {
+        for (words, line) in [
+            ("--fast", "assemble: 2 Words\n"),
+            (MESH, "assemble: 3 MeshText line 1 TooFew\n"),
+            ("--mesh other", "assemble: 17 Absent mesh\n"),
+        ] {
+            assert!(rt;
+                tells_its_line(&rt, words, line, diagnostic),
+                "{words} {diagnostic}"
+            );
+        }
     }
 }
 
@@ -366,8 +468,12 @@ fn a_put_that_fails_leaves_the_512_bytes_of_each_put_before(rt: HostRuntime) {
     }
 }
 
-// What a run of the mesh over a store of blanks tells.
-fn told_of_blanks<R: Runtime + AllocGlobal + Threads + Wait + Sync>(rt: &R) -> Option<MemorySink> {
+// What a run of the mesh over a store tells, with this status.
+fn told_over<R: Runtime + AllocGlobal + Threads + Wait + Sync, S: Store>(
+    rt: &R,
+    store: &mut S,
+    wanted: u8,
+) -> Option<MemorySink> {
     let alloc = rt.alloc();
     let words = words_of(alloc, MESH)?;
     let mut out = sink_of(alloc, 0, 0)?;
@@ -377,29 +483,36 @@ fn told_of_blanks<R: Runtime + AllocGlobal + Threads + Wait + Sync>(rt: &R) -> O
         alloc,
         Top::Plain,
         words.as_slice(),
-        &mut Blanks::new(),
+        store,
         &mut out,
         &mut err,
     );
-    if status == 9 { Some(err) } else { None }
+    if status == wanted { Some(err) } else { None }
 }
 
 #[test]
 fn a_text_above_the_limit_is_refused(rt: HostRuntime) {
-    let told = told_of_blanks(&rt);
+    let told = told_over(&rt, &mut Blanks::new(), 9);
     let line = "assemble: 9 Limit MeshSize\n".as_bytes();
     assert!(rt; told.is_some_and(|err| err.taken() == line));
 }
 
-// The status of a run over a store and an output of which no call fails.
-fn status_of_clean_run<R: Runtime + AllocGlobal + Threads + Wait + Sync>(rt: &R) -> Option<u8> {
+#[test]
+fn want_of_memory_is_told(rt: HostRuntime) {
+    let told = told_over(&rt, &mut Poor::new(), 12);
+    let line = "assemble: 12 NoMemory\n".as_bytes();
+    assert!(rt; told.is_some_and(|err| err.taken() == line));
+}
+
+// The status of a run over a store and an output of which no call fails, and whether the store then holds the matrix.
+fn clean_run<R: Runtime + AllocGlobal + Threads + Wait + Sync>(rt: &R) -> Option<(u8, bool)> {
     let alloc = rt.alloc();
-    let words = words_of(alloc, MESH)?;
+    let words = words_of(alloc, "--mesh mesh --matrix m --rhs -")?;
     let mut store = CleanStore::new(alloc);
     store.hold("mesh", SQUARE.as_bytes()).ok()?;
     let mut out = DropSink::new();
     let mut err = DropSink::new();
-    Some(run_plain(
+    let status = run_plain(
         rt,
         alloc,
         words.as_slice(),
@@ -407,10 +520,12 @@ fn status_of_clean_run<R: Runtime + AllocGlobal + Threads + Wait + Sync>(rt: &R)
         &mut out,
         &mut err,
         &OpenGate,
-    ))
+    );
+    let matrix = store.held("m")?;
+    Some((status, matrix == SQUARE_MATRIX.as_bytes()))
 }
 
 #[test]
 fn a_run_over_a_clean_outside_ends_well(rt: HostRuntime) {
-    assert!(rt; status_of_clean_run(&rt) == Some(0));
+    assert_eq!(rt; clean_run(&rt), Some((0, true)));
 }

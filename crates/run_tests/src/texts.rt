@@ -9,8 +9,8 @@ pub(crate) const STRIP: &str =
 
 // The same two squares as a mesh tool may write them.
 pub(crate) const LENIENT_STRIP: &str =
-    "# made by a writer\n# second comment\n6 3 1 0 0\n70 0.0 0.0 0.0\n9 1e0 0 0\n11 2.00 0 -0\n12 0 10.0E-01 0\n\
-13 1 1 0\n14 2 1. 0\n1 1 quad 70 9 13 12\n2 1 quad 9 11 14 13\n3 7 line 70 12\n1 1\nheight, none\n70 0.25\n";
+    "# made by a writer\n# second comment\n6 4 1 0 0\n70 0.0 0.0 0.0\r\n9\t1e0  0 0\n\n11 2.00 0 -0\n12 0 10.0E-01 0\n\
+13 1 1 0\n14 2 1. 0\n1 1 quad 70 9 13 12\n2 1 quad 9 11 14 13\n3 7 line 70 12\n4 9 line 14 11\n1 1\nheight, none\n70 0.25\n";
 
 // A grid of 4 by 4 unit squares, of which the sixth has material 2.
 pub(crate) const GRID: &str =
@@ -171,3 +171,76 @@ pub(crate) const SQUARE_ROBIN: &str =
 3 2 -1431626528\n3 3 5726652298\n3 4 -29237\n4 1 -1431626528\n4 2 -29237\n4 3 -29237\n4 4 5726652298\n\
 %%MatrixMarket matrix array integer general\n% unit 2^-32\n4 1\n9663676416\n9663676416\n9663676416\n\
 9663676416\n";
+
+// The strip with the id 7 to the left of its first square and the id 9 to the right of its second.
+pub(crate) const MARKED_STRIP: &str =
+    "6 4 0 0 0\n1 0 0 0\n2 1 0 0\n3 2 0 0\n4 0 1 0\n5 1 1 0\n6 2 1 0\n1 1 quad 1 2 5 4\n2 1 quad 2 3 6 5\n3 7 line 1 4\n\
+4 9 line 3 6\n";
+
+// A problem of it.
+pub(crate) const PLAIN_PROBLEM: &str =
+    "diffusion 1 0.5\nrobin 7 1 -2\nsource 1 0.1\ndirichlet 9 32768\npenalty 0.25\nrefine 0\n\
+constraint 1 = 0.5*2 + -1*4 + 2\n";
+
+// The same as a person may write it, with the ids of the lenient strip.
+pub(crate) const LENIENT_PROBLEM: &str =
+    "# a plate\r\ndiffusion 1 0.5\r\n\r\nrobin 7 1 -2\nsource 01 1e-1\ndirichlet\t9 32768\n\tpenalty  .25\n\
+refine 0 0\n# ties\nconstraint 70 = 0.5*9 + -1*12 + 2\ndiffusion 4294967295 -32768\r\n";
+
+// The strip's squares over nodes whose ids count from 1 up to the second one.
+pub(crate) const OTHER_IDS: &str =
+    "6 2 0 0 0\n1 0 0 0\n2 1 0 0\n9 1 1 0\n4 0 1 0\n3 2 0 0\n0 2 1 0\n1 1 quad 1 2 9 4\n2 1 quad 2 3 0 9\n";
+
+// The mesh text of a grid of two by two cells for the seed 7.
+pub(crate) const DRAWN_FOUR: &str =
+    "9 4 0 0 0\n1 0 0 0\n2 2 0 0\n3 4 0 0\n4 0 2 0\n5 2.5 2.5 0\n6 4 2 0\n7 0 4 0\n8 2 4 0\n9 4 4 0\n\
+1 2 quad 1 2 5 4\n2 2 quad 2 3 6 5\n3 2 quad 4 5 8 7\n4 4 quad 5 6 9 8\n";
+
+// Its problem text.
+pub(crate) const DRAWN_FOUR_PROBLEM: &str =
+    "diffusion 1 1\ndiffusion 2 0.5\ndiffusion 3 3\ndiffusion 4 0.001\nsource 1 1\nsource 3 2\ndirichlet 0 0\n\
+penalty 0.01\nrefine 0 3\n";
+
+// A cell of four slanted edges.
+pub(crate) const SKEW: &str =
+    "4 1 0 0 0\n1 0 0 0\n2 2 0.25 0\n3 2.25 2.5 0\n4 -0.25 2 0\n1 1 quad 1 2 3 4\n";
+
+// Its problem.
+pub(crate) const SKEW_PROBLEM: &str = "diffusion 1 1.5\nsource 1 -0.07\nrobin 0 0.5 -3\n";
+
+// Its system, worked from the formats by another program.
+pub(crate) const SKEW_SYSTEM: &str =
+    "%%MatrixMarket matrix coordinate integer general\n% unit 2^-32\n4 4 16\n1 1 7072741769\n1 2 -398290196\n\
+1 3 -680194736\n1 4 -1665866183\n2 1 -398290196\n2 2 8133190317\n2 3 -2720505499\n2 4 -419419903\n\
+3 1 -680194736\n3 2 -2720505499\n3 3 8022498851\n3 4 279900966\n4 1 -1665866183\n4 2 -419419903\n4 3 279900966\n\
+4 4 6973668768\n%%MatrixMarket matrix array integer general\n% unit 2^-32\n4 1\n-26311738387\n-27920639875\n\
+-29778217084\n-31387118573\n";
+
+// A cell as large as can be.
+pub(crate) const LARGE: &str =
+    "4 1 0 0 0\n1 -1024 -1024 0\n2 1024 -1024 0\n3 1024 1024 0\n4 -1024 1024 0\n1 1 quad 1 2 3 4\n";
+
+// Its problem, with all numbers at their limits.
+pub(crate) const LARGE_PROBLEM: &str = "diffusion 1 32768\nsource 1 -32768\nrobin 0 32768 -32768\n";
+
+// Its system, worked from the formats by another program.
+pub(crate) const LARGE_SYSTEM: &str =
+    "%%MatrixMarket matrix coordinate integer general\n% unit 2^-32\n4 4 16\n1 1 192247410051492522\n\
+1 2 48014938819111595\n1 3 48014938819111595\n1 4 -46911538003968\n2 1 48014938819111595\n\
+2 2 192247410051492522\n2 3 -46911538003968\n2 4 48014938819111595\n3 1 48014938819111595\n3 2 -46911538003968\n\
+3 3 192247410051492522\n3 4 48014938819111595\n4 1 -46911538003968\n4 2 48014938819111595\n\
+4 3 48014938819111595\n4 4 192247410051492522\n%%MatrixMarket matrix array integer general\n% unit 2^-32\n4 1\n\
+-147862182965828124672\n-147862182965828124672\n-147862182965828124672\n-147862182965828124672\n";
+
+// The strip with the id 7 below its first square and the id 3 to the left of it.
+pub(crate) const LINED_STRIP: &str =
+    "6 4 0 0 0\n1 0 0 0\n2 1 0 0\n3 2 0 0\n4 0 1 0\n5 1 1 0\n6 2 1 0\n1 1 quad 1 2 5 4\n2 1 quad 2 3 6 5\n\
+3 7 line 1 2\n4 3 line 4 1\n";
+
+// Its system where the id 7 has the value 1 and the id 3 the value 2, worked from the formats by another program.
+// In the corner of both edges the least id decides.
+pub(crate) const LINED_SYSTEM: &str =
+    "%%MatrixMarket matrix coordinate integer general\n% unit 2^-32\n6 6 12\n1 1 2863340768\n2 2 5726681536\n\
+3 3 2863340768\n4 4 5726681536\n4 5 -1431626528\n4 6 -715857120\n5 4 -1431626528\n5 5 2863340768\n\
+5 6 -715857120\n6 4 -715857120\n6 5 -715857120\n6 6 2863340768\n%%MatrixMarket matrix array integer general\n\
+% unit 2^-32\n6 1\n5726681536\n5726681536\n5726681536\n5726681536\n715857120\n1431626528\n";

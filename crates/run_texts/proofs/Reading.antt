@@ -1,14 +1,12 @@
 -- Texts that were read, and what they are of.
-use Rattle.std.proofs.Common.{lit≤, ◌≡◌, ◌∙◌, sym, ap, refl, subst, ℕ, ◌+◌, ◌<◌, ◌≤◌, List, [], length, map, take, arith, true, false, inl, inr}
-use Rattle.std.specs.Prelude.{Some, None, Ok, Err, IfOk, IfErr, ◌⊎◌, ◌^◌}
+use Rattle.std.proofs.Common.{lit≤, ◌≡◌, ◌∙◌, sym, ap, refl, subst, ℕ, ◌+◌, ◌<◌, ◌≤◌, List, [], length, take, arith, false, inl, inr}
+use Rattle.std.specs.Prelude.{Some, None, Ok, Err, IfOk, IfErr, ◌^◌}
 use Rattle.std.specs.declared.option.Option.{Option}
 use Rattle.std.specs.declared.result.Result.{Result}
 use Rattle.std.specs.Option.{option_map}
 use Rattle.std.proofs.lemmas.Grind.{common_steps}
 use Rattle.std.proofs.lemmas.Option.{same_Some}
 use Rattle.fem_fixed.specs.Mesh.{Mesh}
-use Rattle.fem_text.specs.declared.counts.Counts.{Counts}
-use Rattle.fem_text.specs.Counts.{after_call}
 use Rattle.fem_text.specs.Outside.{Held, Reads, IsAbsent}
 use Rattle.fem_text.specs.declared.fault.TextFault.{TextFault}
 use Rattle.ucd_read.specs.declared.fault.UcdKind.{UcdKind}
@@ -28,12 +26,12 @@ use Rattle.diagnostics.specs.declared.ending.Role.{Role}
 use Rattle.diagnostics.specs.declared.ending.Role.TheVariants as roles
 use Rattle.diagnostics.specs.declared.ending.Ending.{Ending}
 use Rattle.diagnostics.specs.declared.ending.Ending.TheVariants.{Refused, ReadFault, WriteFault, NoMemory}
-use Rattle.diagnostics.specs.Layers.{of_mesh_text, of_problem_text}
+use Rattle.run_texts.specs.Endings.{of_mesh_text, of_problem_text}
 use Rattle.diagnostics.specs.Stages.{Then, stops, goes}
 use Rattle.diagnostics.specs.Stages as stages
-use Rattle.diagnostics.proofs.StageLaws.{ends_first, ends_next}
-use Rattle.run_texts.specs.Texts.{text_limit, StandsUnder, ProblemStands, TextFor, size_limit, MeshIn, ProblemIn, MeshOf, ProblemOf}
-use Rattle.run_texts.specs.Read.{TextUnder, MeshUnder, ProblemUnder, EndsIn, EndsProblem, CallsEnd, is_read_fault}
+use Rattle.diagnostics.proofs.StageLaws.{ends_next}
+use Rattle.run_texts.specs.Texts.{text_limit, StandsUnder, TextFor, size_limit, MeshIn, ProblemIn, ProblemOf}
+use Rattle.run_texts.specs.Read.{TextUnder, ProblemUnder, EndsIn, EndsProblem, is_read_fault}
 
 cut_long : (m : ℕ) (text bytes : List ℕ) → take (m + 1) text ≡ bytes → m < length bytes → m < length text
 cut_long m text bytes e h = grind (arith, common_steps)
@@ -165,15 +163,6 @@ module _ {X : Type 0} where
   no_read_fault step (Err (ReadFault role)) h = absurd h
   no_read_fault step (Err (WriteFault output)) h = refl
   no_read_fault step (Err NoMemory) h = refl
-
-  -- one read went well
-  pub one_read : (step : Result X Refusal → Type 0) (result : Result X Ending) (before now : Counts) → IfErr result (stages.EndsIn step) → now ≡ after_call false before →
-      CallsEnd 1 (is_read_fault result) before now
-  one_read step result before now h e = subst (λ b. CallsEnd 1 b before now) (sym (no_read_fault step result h)) (1, lit≤ tt, e)
-
-  -- no read was made
-  pub no_read : (step : Result X Refusal → Type 0) (result : Result X Ending) (before : Counts) → IfErr result (stages.EndsIn step) → CallsEnd 0 (is_read_fault result) before before
-  no_read step result before h = subst (λ b. CallsEnd 0 b before before) (sym (no_read_fault step result h)) (0, lit≤ tt, refl)
 
 -- the problem of the text under a name
 abbrev NamedProblem : Option Held → List ℕ → Result ProblemParts Refusal → Type 0

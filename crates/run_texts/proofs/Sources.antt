@@ -1,6 +1,6 @@
 -- The two texts of a source.
-use Rattle.std.proofs.Common.{◌≡◌, ◌∙◌, sym, ap, refl, subst, ℕ, zero, suc, ◌<◌, ◌≤◌, arith, List, [], Bool, true, false}
-use Rattle.std.specs.Prelude.{Some, None, is_some, Ok, Err, IfOk, IfErr}
+use Rattle.std.proofs.Common.{◌≡◌, ◌∙◌, sym, ap, refl, subst, ℕ, suc, ◌≤◌, lit≤, arith, List, [], true, false}
+use Rattle.std.specs.Prelude.{Some, None, is_some, Ok, Err, IfErr}
 use Rattle.std.specs.declared.option.Option.{Option}
 use Rattle.std.specs.declared.result.Result.{Result}
 use Rattle.fem_fixed.specs.Mesh.{Mesh}
@@ -8,17 +8,16 @@ use Rattle.fem_text.specs.declared.counts.Counts.{Counts}
 use Rattle.fem_text.specs.Counts.{after_call, after_good}
 use Rattle.fem_text.specs.Outside.{Held}
 use Rattle.problem_read.specs.Entries.{ProblemParts}
-use Rattle.run_words.specs.Choice.{Source, texts, generated}
+use Rattle.run_words.specs.Choice.{texts, generated}
 use Rattle.diagnostics.specs.declared.refusal.Refusal.{Refusal}
-use Rattle.diagnostics.specs.declared.ending.Role.{Role}
 use Rattle.diagnostics.specs.declared.ending.Role.TheVariants as roles
 use Rattle.diagnostics.specs.declared.ending.Ending.{Ending}
 use Rattle.diagnostics.specs.declared.ending.Ending.TheVariants.{Refused, ReadFault, WriteFault, NoMemory}
 use Rattle.diagnostics.specs.Stages.{Then, stops, goes}
 use Rattle.diagnostics.specs.Stages as stages
 use Rattle.grid_texts.specs.Grid as grid
-use Rattle.run_texts.specs.Texts.{Texts, StandsUnder, ProblemStands, MeshOf, ProblemOf, AreTextsOf, ReadTexts}
-use Rattle.run_texts.specs.Read.{MeshUnder, ProblemUnder, EndsIn, EndsProblem, SourceRead, GoesOnTo, EndsReading, CallsEnd, name_count, is_read_fault}
+use Rattle.run_texts.specs.Texts.{Texts, StandsUnder, ProblemStands, MeshOf, ProblemOf}
+use Rattle.run_texts.specs.Read.{MeshUnder, ProblemUnder, EndsIn, EndsProblem, SourceRead, GoesOnTo, EndsReading, ReadsMade, after_read, reads_before, name_count, is_read_fault}
 
 -- what a text that isn't read may be
 some_text : (holds : Option Held) (name : List ℕ) → (known : Option (List ℕ)) × StandsUnder holds name known
@@ -60,24 +59,47 @@ problem_ends_both holds mesh name parts (ReadFault role) m (is, named) = subst (
 problem_ends_both holds mesh name parts (WriteFault output) m h = h
 problem_ends_both holds mesh name parts NoMemory m h = h
 
--- the calls of one read
-pub one_call : (most : ℕ) (failed : Bool) (before now : Counts) → 0 < most → now ≡ after_call failed before → CallsEnd most failed before now
-one_call most true before now some e = (0, some, e)
-one_call most false before now some e = (1, (let one : 1 ≤ most = (let h = some in omega arith) in one), e)
+one_of_them : (name : Option (List ℕ)) → 1 ≤ suc (name_count name)
+one_of_them name = omega arith
 
-good_more : (k : ℕ) (before : Counts) → after_good k (after_call false before) ≡ after_good (suc k) before
-good_more zero before = refl
-good_more (suc k) before = ap (after_call false) (good_more k before)
+-- the read of the mesh alone
+pub mesh_reads : (X : Type 0) (step : Result Mesh Refusal → Type 0) (mesh : List ℕ) (name : Option (List ℕ)) (e : Ending) (before now : Counts) → EndsIn roles.Mesh step e →
+    now ≡ after_call (is_read_fault {X = X} (Err e)) before → ReadsMade {X = X} (texts mesh name) (Err e) before now
+mesh_reads X step mesh name (Refused refusal) before now h is = (1, one_of_them name, is)
+mesh_reads X step mesh name (ReadFault role) before now h is = subst (λ r. now ≡ after_call true (after_good (reads_before r) before)) (sym h) is
+mesh_reads X step mesh name (WriteFault output) before now h is = absurd h
+mesh_reads X step mesh name NoMemory before now h is = (1, one_of_them name, is)
 
--- and of the next ones behind one that went well
-pub next_calls : (most : ℕ) (failed : Bool) (before middle now : Counts) → middle ≡ after_call false before → CallsEnd most failed middle now → CallsEnd (suc most) failed before now
-next_calls most true before middle now e (k, few, is) =
-    (suc k, (let more : suc k < suc most = (let h = few in omega arith) in more), is ∙ ap (λ c. after_call true (after_good k c)) e ∙ ap (after_call true) (good_more k before))
-next_calls most false before middle now e (k, few, is) =
-    (suc k, (let more : suc k ≤ suc most = (let h = few in omega arith) in more), is ∙ ap (after_good k) e ∙ good_more k before)
+-- the read of the problem behind that of the mesh, where both went well
+pub both_reads : (name : Option (List ℕ)) (before middle now : Counts) → middle ≡ after_call false before → now ≡ after_read name false middle → now ≡ after_good (suc (name_count name)) before
+both_reads None before middle now first is = is ∙ first
+both_reads (Some name) before middle now first is = is ∙ ap (after_call false) first
 
-pub some_names : (problem : Option (List ℕ)) → 0 < suc (name_count problem)
-some_names problem = omega arith
+-- where it failed
+failed_behind : (name : Option (List ℕ)) (before middle now : Counts) → is_some name ≡ true → middle ≡ after_call false before → now ≡ after_read name true middle →
+    now ≡ after_call true (after_good (reads_before roles.Problem) before)
+failed_behind None before middle now named first is = cc
+failed_behind (Some name) before middle now named first is = is ∙ ap (after_call true) first
+
+all_of_them : (n : ℕ) → n ≤ n
+all_of_them n = omega arith
+
+-- and where the problem ends the reading
+pub problem_reads : (X : Type 0) (holds : Option Held) (mesh : List ℕ) (name : Option (List ℕ)) (e : Ending) (before middle now : Counts) → EndsProblem holds name e →
+    middle ≡ after_call false before → now ≡ after_read name (is_read_fault {X = X} (Err e)) middle → ReadsMade {X = X} (texts mesh name) (Err e) before now
+problem_reads X holds mesh name (Refused refusal) before middle now h first is = (suc (name_count name), all_of_them (suc (name_count name)), both_reads name before middle now first is)
+problem_reads X holds mesh name (ReadFault role) before middle now (problem, named) first is =
+    subst (λ r. now ≡ after_call true (after_good (reads_before r) before)) (sym problem) (failed_behind name before middle now named first is)
+problem_reads X holds mesh name (WriteFault output) before middle now h first is = absurd h
+problem_reads X holds mesh name NoMemory before middle now h first is = (suc (name_count name), all_of_them (suc (name_count name)), both_reads name before middle now first is)
+
+-- no read is made for a drawn grid
+pub drawn_reads : {X : Type 0} (n seed : ℕ) (result : Result X Ending) (counts : Counts) → is_read_fault result ≡ false → ReadsMade (generated n seed) result counts counts
+drawn_reads n seed (Ok value) counts never = refl
+drawn_reads n seed (Err (Refused refusal)) counts never = (0, lit≤ tt, refl)
+drawn_reads n seed (Err (ReadFault role)) counts never = cc
+drawn_reads n seed (Err (WriteFault output)) counts never = (0, lit≤ tt, refl)
+drawn_reads n seed (Err NoMemory) counts never = (0, lit≤ tt, refl)
 
 abbrev drawn_texts : ℕ → ℕ → Texts
 drawn_texts n seed = record { mesh = Some (grid.mesh_text n seed); problem = Some (grid.problem_text n) }

@@ -1,5 +1,5 @@
 -- How the reading of the texts of a source goes.
-use Rattle.std.specs.Prelude.{◌≡◌, ℕ, suc, ◌<◌, ◌≤◌, List, Bool, true, false, Some, None, IsSome, Ok, Err}
+use Rattle.std.specs.Prelude.{◌≡◌, ℕ, suc, ◌≤◌, List, Bool, true, false, Some, None, IsSome, Ok, Err}
 use Rattle.std.specs.declared.option.Option.{Option}
 use Rattle.std.specs.declared.result.Result.{Result}
 use Rattle.fem_fixed.specs.Mesh.{Mesh}
@@ -75,7 +75,25 @@ abbrev pub names_in : Source → ℕ
 names_in (texts mesh problem) = suc (name_count problem)
 names_in (generated n seed) = 0
 
--- so many reads were made at most, each went well but for the last one where that failed
-abbrev pub CallsEnd : ℕ → Bool → Counts → Counts → Type 0
-CallsEnd most true before now = (k : ℕ) × (k < most) × (now ≡ after_call true (after_good k before))
-CallsEnd most false before now = (k : ℕ) × (k ≤ most) × (now ≡ after_good k before)
+-- how many reads come before that of this text
+abbrev pub reads_before : Role → ℕ
+reads_before roles.Mesh = 0
+reads_before roles.Problem = 1
+
+-- after the read under a name, which failed or didn't; none is made where there is no name
+abbrev pub after_read : Option (List ℕ) → Bool → Counts → Counts
+after_read None failed before = before
+after_read (Some name) failed before = after_call failed before
+
+-- some of the reads that a source names were made, and all went well
+abbrev pub SomeRead : Source → Counts → Counts → Type 0
+SomeRead source before now = (k : ℕ) × (k ≤ names_in source) × (now ≡ after_good k before)
+
+-- the reads of a source that were made, by how their step ended: it is done, and all went well; that of this text failed,
+-- behind those before it, which went well; or it stopped otherwise, and some went well
+abbrev pub ReadsMade : {X : Type 0} → Source → Result X Ending → Counts → Counts → Type 0
+ReadsMade source (Ok value) before now = now ≡ after_good (names_in source) before
+ReadsMade source (Err (ReadFault role)) before now = now ≡ after_call true (after_good (reads_before role) before)
+ReadsMade source (Err (Refused refusal)) before now = SomeRead source before now
+ReadsMade source (Err (WriteFault output)) before now = SomeRead source before now
+ReadsMade source (Err NoMemory) before now = SomeRead source before now

@@ -1,5 +1,5 @@
 -- The texts of a run, and the mesh and the problem that they are of.
-use Rattle.std.specs.Prelude.{◌≡◌, ◌⊎◌, ℕ, ◌<◌, ◌≤◌, List, [], length, Some, None, IsSome, Ok, Err}
+use Rattle.std.specs.Prelude.{◌≡◌, ℕ, ◌<◌, ◌≤◌, List, [], length, Some, None, IsSome, Ok, Err}
 use Rattle.std.specs.declared.option.Option.{Option}
 use Rattle.std.specs.declared.result.Result.{Result}
 use Rattle.fem_fixed.specs.Mesh.{Mesh}
@@ -18,7 +18,7 @@ use Rattle.diagnostics.specs.declared.kinds.LimitKind.{LimitKind}
 use Rattle.diagnostics.specs.declared.kinds.LimitKind.TheVariants.{MeshSize, ProblemSize}
 use Rattle.diagnostics.specs.declared.refusal.Refusal.{Refusal}
 use Rattle.diagnostics.specs.declared.refusal.Refusal.TheVariants.{Absent, Limit}
-use Rattle.diagnostics.specs.Layers.{of_mesh_text, of_problem_text}
+use Rattle.run_texts.specs.Endings.{of_mesh_text, of_problem_text}
 use Rattle.diagnostics.specs.Stages.{Then, Says}
 
 -- the greatest length of a text

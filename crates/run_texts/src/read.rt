@@ -4,8 +4,9 @@ ghost use Rattle.fem_text.specs.Counts.{after_call};
 ghost use Rattle.ucd_read.specs.Bounds.{IsBounded};
 ghost use Rattle.diagnostics.specs.Stages as stages;
 ghost use Rattle.run_texts.specs.Texts.{text_limit, MeshIn, ProblemIn, MeshOf, ProblemOf};
-ghost use Rattle.run_texts.specs.Read.{TextUnder, MeshUnder, ProblemUnder, EndsIn, EndsProblem, CallsEnd, name_count, is_read_fault};
+ghost use Rattle.run_texts.specs.Read.{TextUnder, MeshUnder, ProblemUnder, EndsIn, EndsProblem, after_read, is_read_fault};
 
+use crate::endings::{mesh_text_ending, problem_text_ending};
 use diagnostics::{Ending, LimitKind, Refusal, Role};
 use fem_fixed::MeshParts;
 use fem_text::{Store, StoreFault};
@@ -65,7 +66,7 @@ pub(crate) fn mesh_in(alloc: Global, text: &[u8]) -> Result<MeshParts, Ending>
 {
     match read_ucd(alloc, text) {
         Ok(parts) => Ok(parts),
-        Err(fault) => Err(Ending::from(fault)),
+        Err(fault) => Err(mesh_text_ending(fault)),
     }
 }
 
@@ -78,7 +79,7 @@ pub(crate) fn problem_in(alloc: Global, text: &[u8]) -> Result<Problem, Ending>
 {
     match read_problem(alloc, text) {
         Ok(problem) => Ok(problem),
-        Err(fault) => Err(Ending::from(fault)),
+        Err(fault) => Err(problem_text_ending(fault)),
     }
 }
 
@@ -137,7 +138,7 @@ pub(crate) fn read_named_problem<S: Store>(
     ensures ok { IfOk result (λ problem. ProblemUnder (S.holds store.old) (option_copied name.entry) (Ok problem)) }
     ensures ends { IfErr result (EndsProblem (S.holds store.old) (option_copied name.entry)) }
     ensures same { S.holds store.new ≡ S.holds store.old }
-    ensures calls { CallsEnd (name_count (option_copied name.entry)) (is_read_fault result) (S.counts store.old) (S.counts store.new) }
+    ensures calls { S.counts store.new ≡ after_read (option_copied name.entry) (is_read_fault result) (S.counts store.old) }
 {
     let Some(name) = name else {
         return problem_in(alloc, b"");

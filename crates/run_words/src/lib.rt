@@ -7,8 +7,6 @@ mod opening;
 mod options;
 mod reader;
 mod settings;
-#[cfg(test)]
-mod tests;
 mod values;
 mod wait;
 

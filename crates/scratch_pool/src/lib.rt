@@ -11,8 +11,6 @@ mod pass;
 mod pool;
 mod rule;
 mod steps;
-#[cfg(test)]
-mod tests;
 mod view;
 
 pub use gate::{Gate, HoldGate, OpenGate};

@@ -5,7 +5,6 @@ use Rattle.std.specs.declared.option.Option.{Option}
 use Rattle.std.proofs.lemmas.Bool.{cases_Bool}
 use Rattle.std.proofs.lemmas.List.{get_or-set_same, get_or-set_other}
 use Rattle.std.proofs.lemmas.List.Sums.{position_or_len_is, passes_at_first}
-use Rattle.std.proofs.lemmas.List.Folds.{list_any_at}
 use Rattle.std.proofs.lemmas.Grind.{common_steps}
 use Rattle.std.specs.List.Sorted.{IsStrictlyIncreasing}
 use Rattle.std.proofs.lemmas.List.Kept.{AllPairs-from_increasing}
@@ -158,15 +157,6 @@ rows_fit digits pattern rows c fits given = record {
 
 pub other_default : {X : Type 0} (xs : List X) (i : ℕ) (d e : X) → i < length xs → slice_index_or xs i d ≡ slice_index_or xs i e
 other_default xs i d e h = grind (arith, common_steps)
-
-pub entry_at_place : (columns : List ℕ) (row : Row) (j : ℕ) (x : ℤ) (p : ℕ) → p ≡ place columns j → length row.values ≡ length columns → has_column columns j ≡ true →
-    x ≡ slice_index_or row.values p x → x ≡ entry_of columns row (Column j)
-entry_at_place columns row j x p here width held e =
-    e ∙ other_default row.values p x (pos 0) (rw here (rw width (held_place columns j held))) ∙ ap (λ k. slice_index_or row.values k (pos 0)) here
-
--- a column is held at its place
-pub column_held : (columns : List ℕ) (p : ℕ) → p < length columns → has_column columns (slice_index_or columns p 0) ≡ true
-column_held columns p h = list_any_at (λ k. k == slice_index_or columns p 0) columns p 0 h (itself (slice_index_or columns p 0) (slice_index_or columns p 0) refl)
 
 pub row_written : (digits : ℕ) (columns : List ℕ) (row : Row) (p : ℕ) (value now : ℤ) → IsRising columns → p < length columns →
     now ≡ next digits (entry_of columns row (Column (slice_index_or columns p 0))) value →

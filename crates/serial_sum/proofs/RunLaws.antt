@@ -1,16 +1,12 @@
 -- Contributions one after another.
-use Rattle.std.proofs.Common.{◌≡◌, ◌∙◌, sym, ap, ℕ, ◌+◌, ◌<◌, List, take, length, Bool, pos}
+use Rattle.std.proofs.Common.{◌≡◌, ◌∙◌, sym, ap, ℕ, ◌+◌, ◌<◌, List, take, length, Bool}
 use Rattle.std.specs.Prelude.{fold, slice_index_or}
 use Rattle.std.specs.declared.option.Option.{Option}
 use Rattle.std.proofs.lemmas.List.Sums.{fold_more}
 use Rattle.serial_sum.specs.Columns.{columns_at}
-use Rattle.serial_sum.specs.declared.part.Target.TheVariants.{Column}
 use Rattle.serial_sum.specs.declared.part.Contribution.{Contribution}
 use Rattle.serial_sum.specs.Rows.{row_at, is_added, with_row, Run, one, least_after}
 use Rattle.sparsity.specs.declared.rows.Row.{Row}
-
-pub no_contribution : Contribution
-no_contribution = record { row = 0; target = Column 0; value = pos 0 }
 
 -- one contribution more
 pub run_more : (digits : ℕ) (pattern : List (List ℕ)) (list : List Contribution) (i : ℕ) (c : Contribution) (start : Run) (before now : List Row) (least next : Option ℕ) (added : Bool) →

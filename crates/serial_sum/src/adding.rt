@@ -17,6 +17,7 @@ struct Added {
     was_added: bool,
 }
 
+#[inline(always)]
 fn add_to(entry: i128, value: i128, digits: u32) -> Added
     requires entry { unsigned_abs entry ≤ 2 ^ 80 }
     requires term { unsigned_abs value ≤ 2 ^ 100 }
@@ -38,6 +39,7 @@ fn add_to(entry: i128, value: i128, digits: u32) -> Added
 
 /// Adds a value to the entry at a place of a row with these columns, where the sum is at most 2^80 in size. Whether it
 /// was added.
+#[inline(always)]
 pub fn add_at(row: &mut Row, columns: &[u32], place: usize, value: i128, digits: u32) -> bool
     requires fits { FitsRow columns.now row.old }
     requires rising { IsRising columns.now }
@@ -53,6 +55,7 @@ pub fn add_at(row: &mut Row, columns: &[u32], place: usize, value: i128, digits:
 }
 
 /// Adds a value to the right side of a row, where the sum is at most 2^80 in size. Whether it was added.
+#[inline(always)]
 pub fn add_right_side(row: &mut Row, columns: &[u32], value: i128, digits: u32) -> bool
     requires fits { FitsRow columns.now row.old }
     requires term { unsigned_abs value ≤ 2 ^ 100 }
@@ -67,6 +70,7 @@ pub fn add_right_side(row: &mut Row, columns: &[u32], value: i128, digits: u32) 
 }
 
 /// Adds a value to an entry of a row with these columns, where the sum is at most 2^80 in size. Whether it was added.
+#[inline(always)]
 pub fn add(row: &mut Row, columns: &[u32], target: Target, value: i128, digits: u32) -> bool
     requires fits { FitsRow columns.now row.old }
     requires rising { IsRising columns.now }
@@ -124,6 +128,7 @@ fn add_where(
 }
 
 /// Adds a contribution to the rows, where the sum is at most 2^80 in size. Whether it was added.
+#[inline(always)]
 pub fn add_contribution(
     rows: &mut Rows,
     pattern: &Pattern,

@@ -14,8 +14,6 @@ mod lists;
 mod pattern;
 mod pieces;
 mod rows;
-#[cfg(test)]
-mod tests;
 mod values;
 
 pub use couplings::Couplings;

@@ -1,7 +1,7 @@
 -- The least set that is closed under a relation which leads down from level to level.
 use Rattle.std.proofs.Common.{◌≡◌, ℕ, zero, suc, ◌+◌, ◌<◌, ◌≤◌, ⊎_elim, Bool, true, arith}
 use Rattle.std.specs.Prelude.{◌||◌, ◌&&◌}
-use Rattle.forest_balance.proofs.Active.{or_true, or_left, or_right}
+use Rattle.corner_names.proofs.Active.{or_true, or_left, or_right}
 use Rattle.mesh_visits.proofs.Meets.{and_true, and_by}
 use Rattle.system_laws.proofs.Search.{some_below, some_from, some_to}
 

@@ -3,10 +3,10 @@ use Rattle.std.proofs.Common.{◌≡◌, ◌∙◌, sym, ap, refl, subst, ℕ, z
 use Rattle.quad_mesh.specs.Mesh.{CoarseMesh}
 use Rattle.corner_names.specs.Names.{Cell, root, child}
 use Rattle.corner_names.specs.Cells.{Corners, level}
-use Rattle.forest_balance.specs.Forest.{MeetAt}
-use Rattle.forest_balance.specs.Active.{same_cell, has_cell, refined_by, next_active, IsForest, IsClosedSet, AreOnce, coarse_cells}
-use Rattle.forest_balance.proofs.Active.{or_true, same_true, step_forest, clash}
-use Rattle.forest_balance.proofs.Start.{coarse_forest, coarse_once, once_next}
+use Rattle.corner_names.specs.Forest.{MeetAt}
+use Rattle.corner_names.specs.Active.{same_cell, has_cell, refined_by, next_active, IsForest, IsClosedSet, AreOnce, coarse_cells}
+use Rattle.corner_names.proofs.Active.{or_true, same_true, step_forest, clash}
+use Rattle.corner_names.proofs.Start.{coarse_forest, coarse_once, once_next}
 use Rattle.hanging_refine.specs.Coarse.{corner_at, on_boundary, IsCoarse}
 use Rattle.hanging_refine.specs.Refined.{RefinedMesh, cell_of, named, active_cells, cell_in, unrefined_cell, unrefined_cells, unrefined}
 use Rattle.hanging_refine.specs.Grown.{IsGrown}

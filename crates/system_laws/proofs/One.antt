@@ -3,12 +3,12 @@ use Rattle.std.proofs.Common.{◌≡◌, ◌∙◌, sym, ap, refl, subst, ℕ, �
 use Rattle.std.specs.declared.option.Option.{Option}
 use Rattle.std.specs.declared.result.Result.{Result}
 use Rattle.std.proofs.lemmas.List.{ext_get_or}
-use Rattle.fem_fixed.specs.Lists.{different}
 use Rattle.quad_mesh.specs.declared.fault.MeshFault.{MeshFault}
 use Rattle.quad_mesh.specs.Mesh.{CoarseMesh, mesh_of}
 use Rattle.hanging_refine.specs.Refined.{RefinedMesh, active_cells, unrefined}
 use Rattle.affine_constraints.specs.Lines.{AffineLine}
-use Rattle.dof_numbers.specs.Dofs.{Numbering, IsNumberingOf, same_name}
+use Rattle.dof_numbers.specs.Dofs.{Numbering, IsNumberingOf, names_each, corner_dof}
+use Rattle.constrained_mesh.specs.MeshLines.{dof_count}
 use Rattle.problem_read.specs.Entries.{ProblemParts}
 use Rattle.mesh_visits.specs.declared.flags.Interior.{Interior}
 use Rattle.sparsity.specs.Coupled.{pairs_of}
@@ -16,27 +16,28 @@ use Rattle.mesh_loop.specs.Setup.{MeshProblem, coupled_dofs}
 use Rattle.diagnostics.specs.declared.refusal.Refusal.{Refusal}
 use Rattle.diagnostics.specs.declared.ending.Ending.{Ending}
 use Rattle.diagnostics.specs.declared.ending.Ending.TheVariants.{Refused}
-use Rattle.diagnostics.specs.Layers.{of_mesh, of_refining}
+use Rattle.system_setup.specs.Endings.{of_mesh, of_refining}
 use Rattle.diagnostics.specs.Stages.{Then, stops, goes}
 use Rattle.system_setup.specs.SetUp.{RefinedFrom, IsMadeOf, PatternedFor, SetUpOn}
 use Rattle.system_laws.specs.Same.{AgreeOn}
 use Rattle.system_laws.specs.Laws.{HasOneSystem}
 use Rattle.system_laws.proofs.Forests.{IsSameForest, same_count}
-use Rattle.system_laws.proofs.Lines.{same_corners, same_corner_dof, same_lines}
+use Rattle.system_laws.proofs.Lines.{same_size, same_corner_dof, same_lines}
 use Rattle.system_laws.proofs.Steps.{same_steps}
 use Rattle.system_laws.proofs.System.{IsSameSetUp, one_system, same_couplings}
 
-same_row : (a b : RefinedMesh) → IsSameForest a b → (d e : Numbering) → IsNumberingOf a d → IsNumberingOf b e → (c : ℕ) → c < length a.cells → slice_index_or d.cells c [] ≡ slice_index_or e.cells c []
-same_row a b s d e n m c h =
+same_row : (a b : RefinedMesh) → IsSameForest a b → (d e : Numbering) → d.degree ≡ 1 → e.degree ≡ 1 → IsNumberingOf a d → IsNumberingOf b e → (c : ℕ) → c < length a.cells → slice_index_or d.cells c [] ≡ slice_index_or e.cells c []
+same_row a b s d e x y n m c h =
     let l = same_count a b s in let ln = n.count in let lm = m.count in
-    let four : length (slice_index_or d.cells c []) ≡ 4 = n.four c [] (omega arith) in
-    let too : length (slice_index_or e.cells c []) ≡ 4 = m.four c [] (omega arith) in
+    let four : length (slice_index_or d.cells c []) ≡ 4 = n.each c [] (omega arith) ∙ ap names_each x in
+    let too : length (slice_index_or e.cells c []) ≡ 4 = m.each c [] (omega arith) ∙ ap names_each y in
     ext_get_or 0 (slice_index_or d.cells c []) (slice_index_or e.cells c []) (four ∙ sym too)
-    (λ v k. n.cells c v h (omega arith) ∙ ap (λ dof. dof c v) (same_corner_dof a b s) ∙ sym (m.cells c v (omega arith) (omega arith)))
+    (λ v k. n.cells c v h (omega arith) ∙ ap (λ degree. corner_dof degree a c v) x ∙ ap (λ dof. dof c v) (same_corner_dof 1 a b s)
+    ∙ sym (m.cells c v (omega arith) (omega arith) ∙ ap (λ degree. corner_dof degree b c v) y))
 
-same_rows : (a b : RefinedMesh) → IsSameForest a b → (d e : Numbering) → IsNumberingOf a d → IsNumberingOf b e → d.cells ≡ e.cells
-same_rows a b s d e n m =
-    ext_get_or [] d.cells e.cells (n.count ∙ same_count a b s ∙ sym m.count) (λ c h. same_row a b s d e n m c (let l = n.count in omega arith))
+same_rows : (a b : RefinedMesh) → IsSameForest a b → (d e : Numbering) → d.degree ≡ 1 → e.degree ≡ 1 → IsNumberingOf a d → IsNumberingOf b e → d.cells ≡ e.cells
+same_rows a b s d e x y n m =
+    ext_get_or [] d.cells e.cells (n.count ∙ same_count a b s ∙ sym m.count) (λ c h. same_row a b s d e x y n m c (let l = n.count in omega arith))
 
 same_forest : (a b c d : RefinedMesh) → c ≡ a → IsSameForest a b → d ≡ b → IsSameForest c d
 same_forest a b c d e s f = record {
@@ -48,10 +49,10 @@ same_made : (a b : RefinedMesh) → IsSameForest a b → (interior : Interior) (
 same_made a b same interior problem table s t m n = record {
   given = record {
     forest = same_forest a b s.given.forest t.given.forest m.forest_is same n.forest_is;
-    dofs = same_rows a b same s.given.dofs t.given.dofs m.numbered n.numbered;
+    dofs = same_rows a b same s.given.dofs t.given.dofs m.degree n.degree m.numbered n.numbered;
     problem = m.problem_is ∙ sym n.problem_is;
   };
-  size = m.numbered.size ∙ ap (different same_name) (same_corners a b same) ∙ sym n.numbered.size;
+  size = m.numbered.size ∙ ap (λ degree. dof_count degree a) (m.degree ∙ sym n.degree) ∙ same_size t.given.dofs.degree a b same ∙ sym n.numbered.size;
   closed = m.lines_are ∙ sym n.lines_are;
   flags = m.flags_are ∙ sym n.flags_are;
 }

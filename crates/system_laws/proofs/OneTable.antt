@@ -8,7 +8,7 @@ use Rattle.std.proofs.lemmas.Bool.{cases_Bool}
 use Rattle.std.proofs.lemmas.Bool.Decides.{Decides-int_eq}
 use Rattle.std.proofs.lemmas.List.{ext_get_or}
 use Rattle.corner_names.proofs.Across.{nat_decides}
-use Rattle.forest_balance.proofs.Active.{clash}
+use Rattle.corner_names.proofs.Active.{clash}
 use Rattle.hanging_refine.specs.Refined.{RefinedMesh}
 use Rattle.affine_constraints.specs.declared.term.Term.{Term}
 use Rattle.affine_constraints.specs.Lines.{AffineLine, lines_in}
@@ -70,15 +70,15 @@ place_decides (Some x) None = inr (λ e. cc)
 place_decides (Some x) (Some y) = some_decides x y (line_decides x y)
 
 -- a dof has one line: were there two, it would hang nowhere, and have its Dirichlet line in both tables
-same_line : (forest : RefinedMesh) (problem : ProblemParts) (t u : Table) → AreMeshLines forest problem t → AreMeshLines forest problem u → (dof : ℕ) → dof < dof_count forest → lines_in t dof ≡ lines_in u dof
-same_line forest problem t u w v dof h = ⊎_elim
+same_line : (degree : ℕ) (forest : RefinedMesh) (problem : ProblemParts) (t u : Table) → AreMeshLines degree forest problem t → AreMeshLines degree forest problem u → (dof : ℕ) → dof < dof_count degree forest → lines_in t dof ≡ lines_in u dof
+same_line degree forest problem t u w v dof h = ⊎_elim
     (λ (e : lines_in t dof ≡ lines_in u dof). e)
     (λ (n : lines_in t dof ≡ lines_in u dof → ⊥).
-    let nowhere : HangsNowhere forest dof = λ c f k. n (w.hanging dof c f k ∙ sym (v.hanging dof c f k)) in w.others dof h nowhere ∙ sym (v.others dof h nowhere))
+    let nowhere : HangsNowhere degree forest dof = λ c f h k. n (w.hanging dof c f h k ∙ sym (v.hanging dof c f h k)) in w.others dof h nowhere ∙ sym (v.others dof h nowhere))
     (place_decides (lines_in t dof) (lines_in u dof))
 
-same_table : (forest : RefinedMesh) (problem : ProblemParts) (t u : Table) → AreMeshLines forest problem t → AreMeshLines forest problem u → t ≡ u
-same_table forest problem t u w v = ext_get_or None t u (w.size ∙ sym v.size) (λ dof h. same_line forest problem t u w v dof (let s = w.size in omega arith))
+same_table : (degree : ℕ) (forest : RefinedMesh) (problem : ProblemParts) (t u : Table) → AreMeshLines degree forest problem t → AreMeshLines degree forest problem u → t ≡ u
+same_table degree forest problem t u w v = ext_get_or None t u (w.size ∙ sym v.size) (λ dof h. same_line degree forest problem t u w v dof (let s = w.size in omega arith))
 
 same_outcome : (outcome : Result Table ConstraintFault) (x y : Answer) → ClosesOrFails outcome x → ClosesOrFails outcome y → x ≡ y
 same_outcome (Ok table) x y w v = w.answer_is ∙ ap answer_of (one_closing table w.closing v.closing w.is_answer v.is_answer) ∙ sym v.answer_is
@@ -88,4 +88,4 @@ same_outcome (Err fault) x y w v = w ∙ sym v
 pub same_answer : (nodes : Nodes) (problem : ProblemParts) (x y : Answer) → IsConstrained nodes problem x → IsConstrained nodes problem y → x ≡ y
 same_answer nodes problem x y w v =
     let P : Table → Type 0 = λ lines. ClosesOrFails (with_ties (dof_of_id nodes) lines problem.ties) y in
-    same_outcome (with_ties (dof_of_id nodes) w.lines problem.ties) x y w.outcome (subst P (sym (same_table nodes.forest problem w.lines v.lines w.of_mesh v.of_mesh)) v.outcome)
+    same_outcome (with_ties (dof_of_id nodes) w.lines problem.ties) x y w.outcome (subst P (sym (same_table nodes.degree nodes.forest problem w.lines v.lines w.of_mesh v.of_mesh)) v.outcome)

@@ -24,7 +24,7 @@ use Rattle.hanging_refine.specs.Grown.{IsGrown}
 use Rattle.constrained_mesh.specs.Steps.{Outcome, refused, refined, RefinesBy}
 use Rattle.diagnostics.specs.declared.refusal.Refusal.{Refusal}
 use Rattle.diagnostics.specs.declared.ending.Ending.TheVariants.{Refused}
-use Rattle.diagnostics.specs.Layers.{of_refining}
+use Rattle.system_setup.specs.Endings.{of_refining}
 use Rattle.system_laws.proofs.Search.{IsFirst, first_or_none}
 use Rattle.system_laws.proofs.StepSets.{least_set, is_least}
 use Rattle.system_laws.proofs.Grown.{coarse_names, step_grown}

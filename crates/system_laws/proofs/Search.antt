@@ -2,7 +2,7 @@
 use Rattle.std.proofs.Common.{◌≡◌, ◌∙◌, ap, ℕ, zero, suc, ◌+◌, ◌<◌, ◌≤◌, ◌⊎◌, inl, inr, ⊎_elim, Bool, true, false, arith}
 use Rattle.std.specs.Prelude.{◌||◌}
 use Rattle.std.proofs.lemmas.Bool.{cases_Bool, cases_lt}
-use Rattle.forest_balance.proofs.Active.{or_true, or_left, or_right}
+use Rattle.corner_names.proofs.Active.{or_true, or_left, or_right}
 
 -- some number below n passes
 pub some_below : (ℕ → Bool) → ℕ → Bool

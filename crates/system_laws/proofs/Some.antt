@@ -19,21 +19,21 @@ use Rattle.diagnostics.specs.declared.refusal.Refusal.{Refusal}
 use Rattle.diagnostics.specs.declared.refusal.Refusal.TheVariants.{Limit}
 use Rattle.diagnostics.specs.declared.kinds.LimitKind.TheVariants.{Entries}
 use Rattle.diagnostics.specs.declared.ending.Ending.TheVariants.{Refused}
-use Rattle.diagnostics.specs.Layers.{of_mesh}
+use Rattle.system_setup.specs.Endings.{of_mesh}
 use Rattle.diagnostics.specs.Stages.{Then, stops, goes}
 use Rattle.system_setup.specs.SetUp.{CoarseOf, RefinedFrom, LinesFor, flags_for, IsMadeOf, PatternedFor, SetUpOn}
 use Rattle.system_laws.specs.Laws.{HasASetUp}
 use Rattle.system_laws.proofs.Coarse.{coarse_good, never_memory}
 use Rattle.system_laws.proofs.Grown.{start_grown}
 use Rattle.system_laws.proofs.Refining.{steps_end, steps_grown, steps_told}
-use Rattle.system_laws.proofs.Tables.{numbering_of, numbering_is, some_lines}
+use Rattle.system_laws.proofs.Tables.{numbering_of, of_degree_one, numbering_is, some_lines}
 
 set_up_of : Interior → ProblemParts → RefinedMesh → List (Option AffineLine) → MeshProblem
 set_up_of interior problem forest table = record { given = record { forest = forest; dofs = numbering_of forest; problem = problem }; closed = table; flags = flags_for interior }
 
 is_made : (interior : Interior) (problem : ProblemParts) (forest : RefinedMesh) (table : List (Option AffineLine)) → IsMadeOf forest problem table interior (set_up_of interior problem forest table)
 unfolding set_up_of
-is_made interior problem forest table = record { forest_is = refl; problem_is = refl; numbered = numbering_is forest; lines_are = refl; flags_are = refl }
+is_made interior problem forest table = record { forest_is = refl; problem_is = refl; degree = of_degree_one forest; numbered = numbering_is forest; lines_are = refl; flags_are = refl }
 
 some_pattern : (interior : Interior) (problem : ProblemParts) (forest : RefinedMesh) (table : List (Option AffineLine)) → (outcome : Result MeshProblem Refusal) × PatternedFor interior problem forest table outcome
 some_pattern interior problem forest table =

@@ -4,8 +4,8 @@ use Rattle.std.specs.Prelude.{◌||◌, ◌&&◌, ◌==◌, nat_lt}
 use Rattle.std.proofs.lemmas.Bool.Decides.{nat_tests}
 use Rattle.corner_names.specs.Names.{Cell}
 use Rattle.corner_names.specs.Cells.{Corners, vertex, mid, face_start, face_end, is_on}
-use Rattle.forest_balance.specs.Forest.{IsHalfAt, MeetAt}
-use Rattle.forest_balance.proofs.Active.{or_true, or_left, or_right}
+use Rattle.corner_names.specs.Forest.{IsHalfAt, MeetAt}
+use Rattle.corner_names.proofs.Active.{or_true, or_left, or_right}
 use Rattle.mesh_visits.specs.Meeting.{same_pair}
 use Rattle.mesh_visits.proofs.Meets.{and_true, and_by, pair_true, pair_by}
 use Rattle.hanging_refine.specs.Coarse.{corner_at}

@@ -1,5 +1,5 @@
 -- Refined meshes have dofs, and closed lines or a fault of the constraints.
-use Rattle.std.proofs.Common.{◌≡◌, ◌∙◌, sym, ap, refl, subst, ℕ, ◌<◌, ◌≤◌, ⊎_elim, List, [], ◌∷◌, length, map, slice_index, slice_index_or, slice_set, Ok, Err, arith}
+use Rattle.std.proofs.Common.{◌≡◌, ◌∙◌, sym, ap, refl, subst, ℕ, ◌<◌, ◌≤◌, inl, ⊎_elim, List, [], ◌∷◌, length, map, slice_index, slice_index_or, slice_set, Ok, Err, arith}
 use Rattle.std.specs.Prelude.{◌^◌, not, is_some, Some, None, MatchOption}
 use Rattle.std.specs.declared.option.Option.{Option}
 use Rattle.std.specs.declared.result.Result.{Result}
@@ -22,7 +22,7 @@ use Rattle.affine_constraints.specs.declared.fault.CloseFault.{CloseFault}
 use Rattle.affine_constraints.specs.Lines.{AffineLine, Lines, lines_in}
 use Rattle.affine_constraints.specs.Closing.{AreClosed, IsClosedLine}
 use Rattle.affine_constraints.specs.Laws.{IsAnswer}
-use Rattle.dof_numbers.specs.Dofs.{Numbering, IsNumberingOf, same_name, cell_names, corner_list, name_dof}
+use Rattle.dof_numbers.specs.Dofs.{Numbering, IsNumberingOf, same_name, cell_names, name_list, name_dof}
 use Rattle.problem_read.specs.Entries.{ProblemParts, Tie}
 use Rattle.constrained_mesh.specs.declared.fault.ConstraintFault.{ConstraintFault}
 use Rattle.constrained_mesh.specs.declared.fault.ConstraintFault.TheVariants.{UnknownNode, Twice, Cycle, Weight, Terms, NoMemory}
@@ -34,30 +34,34 @@ use Rattle.constrained_mesh.proofs.AnswerLaws.{some}
 use Rattle.constrained_mesh.proofs.MemoryLaws.{never}
 use Rattle.diagnostics.specs.declared.refusal.Refusal.{Refusal}
 use Rattle.diagnostics.specs.declared.ending.Ending.TheVariants.{Refused}
-use Rattle.diagnostics.specs.Layers.{of_constraints}
+use Rattle.system_setup.specs.Endings.{of_constraints}
 use Rattle.system_setup.specs.SetUp.{nodes_of, LinesFor}
 
 -- the dofs of the cells
 cell_dofs : RefinedMesh → Cell → List ℕ
-cell_dofs forest x = map (name_dof forest) (cell_names forest.mesh x)
+cell_dofs forest x = map (name_dof 1 forest) (cell_names 1 forest.mesh x)
 
 -- the dofs, if any, of the first nodes
 nodes_below : RefinedMesh → ℕ → List (Option ℕ)
-nodes_below forest n = map (λ k. rank_among same_name (corner_list forest) (node k)) (range_with_len 0 n)
+nodes_below forest n = map (λ k. rank_among same_name (name_list 1 forest) (node k)) (range_with_len 0 n)
 
-node_below : (forest : RefinedMesh) (n k : ℕ) → k < n → slice_index_or (nodes_below forest n) k None ≡ rank_among same_name (corner_list forest) (node k)
+node_below : (forest : RefinedMesh) (n k : ℕ) → k < n → slice_index_or (nodes_below forest n) k None ≡ rank_among same_name (name_list 1 forest) (node k)
 unfolding nodes_below
-node_below forest n k h = get_or-map-range_with_len (λ j. rank_among same_name (corner_list forest) (node j)) 0 n k k None h (omega arith)
+node_below forest n k h = get_or-map-range_with_len (λ j. rank_among same_name (name_list 1 forest) (node j)) 0 n k k None h (omega arith)
 
 pub numbering_of : RefinedMesh → Numbering
-numbering_of forest = record { size = different same_name (corner_list forest); cells = map (cell_dofs forest) (active_cells forest); nodes = nodes_below forest (2 ^ 20) }
+numbering_of forest = record { degree = 1; size = different same_name (name_list 1 forest); cells = map (cell_dofs forest) (active_cells forest); nodes = nodes_below forest (2 ^ 20) }
+
+pub of_degree_one : (forest : RefinedMesh) → (numbering_of forest).degree ≡ 1
+unfolding numbering_of
+of_degree_one forest = refl
 
 row_of : (forest : RefinedMesh) (c : ℕ) (d : List ℕ) → c < length forest.cells → slice_index_or (map (cell_dofs forest) (active_cells forest)) c d ≡ cell_dofs forest (cell_in (active_cells forest) c)
 row_of forest c d h = map_in (cell_dofs forest) (active_cells forest) c (root 0) d (let l = map_length named forest.cells in omega arith)
 
-dof_in_row : (forest : RefinedMesh) (x : Cell) (v : ℕ) → v < 4 → slice_index (cell_dofs forest x) v ≡ name_dof forest (vertex (corner_at forest.mesh) x v)
+dof_in_row : (forest : RefinedMesh) (x : Cell) (v : ℕ) → v < 4 → slice_index (cell_dofs forest x) v ≡ name_dof 1 forest (vertex (corner_at forest.mesh) x v)
 unfolding cell_dofs
-dof_in_row forest x v h = by_face (λ w. slice_index (map (name_dof forest) (cell_names forest.mesh x)) w ≡ name_dof forest (vertex (corner_at forest.mesh) x w)) refl refl refl refl v h
+dof_in_row forest x v h = by_face (λ w. slice_index (map (name_dof 1 forest) (cell_names 1 forest.mesh x)) w ≡ name_dof 1 forest (vertex (corner_at forest.mesh) x w)) refl refl refl refl v h
 
 four_in_row : (forest : RefinedMesh) (x : Cell) → length (cell_dofs forest x) ≡ 4
 unfolding cell_dofs
@@ -69,10 +73,13 @@ unfolding numbering_of
 numbering_is forest =
     let l : length (map (cell_dofs forest) (active_cells forest)) ≡ length forest.cells = map_length (cell_dofs forest) (active_cells forest) ∙ map_length named forest.cells in
     record {
+      degree = inl refl;
       size = refl;
       count = l;
-      four = λ c d h. ap length (row_of forest c d (omega arith)) ∙ four_in_row forest (cell_in (active_cells forest) c);
+      each = λ c d h. ap length (row_of forest c d (omega arith)) ∙ four_in_row forest (cell_in (active_cells forest) c);
       cells = λ c v h a. ap (λ row. slice_index row v) (row_of forest c [] h) ∙ dof_in_row forest (cell_in (active_cells forest) c) v a;
+      middles = λ c f two h b. absurd (omega (arith, two));
+      centres = λ c two h. absurd (omega (arith, two));
       nodes = λ n h. node_below forest (2 ^ 20) n h;
     }
 
@@ -122,7 +129,7 @@ unfolding Keeps
 outcome_free n (Ok table) closed keeps w dof h = let l : length table ≡ n = keeps table refl in closing_free table w.closing closed w.is_answer w.answer_is dof (omega arith)
 outcome_free n (Err fault) closed keeps w dof h = absurd (not_lines closed fault w)
 
-constrained_free : (nodes : Nodes) (problem : ProblemParts) (closed : Lines) → IsConstrained nodes problem (Ok closed) → (dof : ℕ) → dof_count nodes.forest ≤ dof → closed dof ≡ None
+constrained_free : (nodes : Nodes) (problem : ProblemParts) (closed : Lines) → IsConstrained nodes problem (Ok closed) → (dof : ℕ) → dof_count nodes.degree nodes.forest ≤ dof → closed dof ≡ None
 constrained_free nodes problem closed w dof h =
     let s = w.of_mesh.size in
     outcome_free (length w.lines) (with_ties (dof_of_id nodes) w.lines problem.ties) closed (ties_keep (dof_of_id nodes) w.lines problem.ties) w.outcome dof (omega arith)
@@ -152,7 +159,7 @@ refusal_by NoMemory n = absurd (n refl)
 
 lined : (ids : List ℕ) (problem : ProblemParts) (forest : RefinedMesh) (answer : Answer) → IsConstrained (nodes_of ids forest) problem answer → (outcome : Result Table Refusal) × LinesFor ids problem forest outcome
 lined ids problem forest (Ok closed) w =
-    let n : ℕ = dof_count forest in
+    let n : ℕ = dof_count 1 forest in
     let same : lines_in (table_below closed n) ≡ closed = table_lines closed n (λ dof h. constrained_free (nodes_of ids forest) problem closed w dof h) in
     let P : Lines → Type 0 = λ lines. IsConstrained (nodes_of ids forest) problem (Ok lines) in
     (Ok (table_below closed n), (table_length closed n, subst P (sym same) w))
@@ -162,4 +169,4 @@ lined ids problem forest (Err fault) w =
 
 -- a refined mesh that is grown has closed lines, or a refusal
 pub some_lines : (ids : List ℕ) (problem : ProblemParts) (forest : RefinedMesh) → IsGrown forest → (outcome : Result Table Refusal) × LinesFor ids problem forest outcome
-some_lines ids problem forest g = let t = some (nodes_of ids forest) problem g in lined ids problem forest t.0 t.1
+some_lines ids problem forest g = let t = some (nodes_of ids forest) problem (inl refl) g in lined ids problem forest t.0 t.1

@@ -12,7 +12,7 @@ use Rattle.mesh_loop.specs.Setup.{MeshProblem}
 use Rattle.diagnostics.specs.declared.ending.Ending.{Ending}
 use Rattle.diagnostics.specs.Stages.{EndsIn}
 use Rattle.diagnostics.proofs.StageLaws.{ends_first, ends_next, goes_well}
-use Rattle.system_setup.specs.SetUp.{CoarseOf, RefinedFrom, LinesFor, PatternedFor, SetUpOn, IsSetUp}
+use Rattle.system_setup.specs.SetUp.{CoarseOf, RefinedFrom, LinesFor, PatternedFor, IsSetUp}
 
 pub mesh_ends : (interior : Interior) (parts : Mesh) (problem : ProblemParts) (e : Ending) → EndsIn (CoarseOf parts.points parts.quads parts.lines) e → EndsIn (IsSetUp interior parts problem) e
 mesh_ends interior parts problem e h = ends_first _ _ e h

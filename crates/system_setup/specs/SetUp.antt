@@ -22,7 +22,7 @@ use Rattle.mesh_loop.specs.Setup.{MeshProblem, coupled_dofs}
 use Rattle.diagnostics.specs.declared.refusal.Refusal.{Refusal}
 use Rattle.diagnostics.specs.declared.refusal.Refusal.TheVariants.{Limit}
 use Rattle.diagnostics.specs.declared.kinds.LimitKind.TheVariants.{Entries}
-use Rattle.diagnostics.specs.Layers.{of_mesh, of_refining, of_constraints}
+use Rattle.system_setup.specs.Endings.{of_mesh, of_refining, of_constraints}
 use Rattle.diagnostics.specs.Stages.{Then, Says}
 
 -- the coarse mesh, or its first fault
@@ -35,13 +35,13 @@ abbrev pub RefinedFrom : CoarseMesh → ProblemParts → Result RefinedMesh Refu
 RefinedFrom mesh problem (Ok forest) = RefinesBy problem.steps (unrefined mesh) (Ok forest)
 RefinedFrom mesh problem (Err refusal) = Says of_refining (λ fault. RefinesBy problem.steps (unrefined mesh) (Err fault)) refusal
 
--- the node ids of a mesh text, by position, and the refined mesh
+-- the node ids of a mesh text, by position, and the refined mesh, with dofs of degree 1
 abbrev pub nodes_of : List ℕ → RefinedMesh → Nodes
-nodes_of ids forest = record { ids = ids; forest = forest }
+nodes_of ids forest = record { ids = ids; degree = 1; forest = forest }
 
 -- the closed lines, a place for each dof, or the first fault of the constraints
 abbrev pub LinesFor : List ℕ → ProblemParts → RefinedMesh → Result (List (Option AffineLine)) Refusal → Type 0
-LinesFor ids problem forest (Ok table) = (length table ≡ dof_count forest) × IsConstrained (nodes_of ids forest) problem (Ok (lines_in table))
+LinesFor ids problem forest (Ok table) = (length table ≡ dof_count 1 forest) × IsConstrained (nodes_of ids forest) problem (Ok (lines_in table))
 LinesFor ids problem forest (Err refusal) = Says of_constraints (λ fault. IsConstrained (nodes_of ids forest) problem (Err fault)) refusal
 
 -- each cell and each face at the boundary is visited, and cells first
@@ -52,6 +52,7 @@ flags_for interior = record { cells = true; boundary = true; interior = interior
 pub record IsMadeOf (forest : RefinedMesh) (problem : ProblemParts) (table : List (Option AffineLine)) (interior : Interior) (s : MeshProblem) : Type 0 where
   pub forest_is : s.given.forest ≡ forest
   pub problem_is : s.given.problem ≡ problem
+  pub degree : s.given.dofs.degree ≡ 1
   pub numbered : IsNumberingOf forest s.given.dofs
   pub lines_are : s.closed ≡ table
   pub flags_are : s.flags ≡ flags_for interior

@@ -2,9 +2,7 @@
 //! refinement, the degrees of freedom, the constraint lines and the pattern, in this order.
 #![tactic(auto)]
 
+mod endings;
 mod steps;
 
 pub use steps::set_up;
-
-#[cfg(test)]
-mod tests;

@@ -4,6 +4,7 @@ ghost use Rattle.ucd_read.specs.Bounds.{IsBounded};
 ghost use Rattle.diagnostics.specs.Stages.{EndsIn};
 ghost use Rattle.system_setup.specs.SetUp.{CoarseOf, RefinedFrom, LinesFor, PatternedFor, IsSetUp};
 
+use crate::endings::{constraints_ending, mesh_ending, pattern_ending, refining_ending};
 use affine_constraints::Closed;
 use constrained_mesh::{constraint_lines, refine_by_steps};
 use diagnostics::Ending;
@@ -45,7 +46,7 @@ pub fn set_up(
         Ok(forest) => forest,
         Err(ending) => return Err(ending),
     };
-    let dofs = Dofs::number(alloc, &forest)?;
+    let dofs = Dofs::number(alloc, &forest, 1)?;
     let closed = match closed_lines(alloc, &forest, &dofs, &ids, &problem) {
         Ok(closed) => closed,
         Err(ending) => return Err(ending),
@@ -63,7 +64,7 @@ fn coarse_mesh(alloc: Global, parts: MeshParts) -> Result<(Vec<u32>, QuadMesh), 
     let (ids, points, quads, lines) = parts.into_parts();
     match QuadMesh::new(alloc, points, quads, lines) {
         Ok(mesh) => Ok((ids, mesh)),
-        Err(fault) => Err(Ending::from(fault)),
+        Err(fault) => Err(mesh_ending(fault)),
     }
 }
 
@@ -75,7 +76,7 @@ fn refined(alloc: Global, mesh: QuadMesh, problem: &Problem) -> Result<Forest, E
     let mut forest = Forest::of(alloc, mesh)?;
     match refine_by_steps(&mut forest, problem) {
         Ok(()) => Ok(forest),
-        Err(fault) => Err(Ending::from(fault)),
+        Err(fault) => Err(refining_ending(fault)),
     }
 }
 
@@ -87,6 +88,7 @@ fn closed_lines(
     ids: &[u32],
     problem: &Problem,
 ) -> Result<Closed, Ending>
+    requires degree { dofs.now.degree ≡ 1 }
     requires numbered { IsNumberingOf forest.now dofs.now }
     requires ids { length ids.now ≤ 2 ^ 20 }
     ensures ok { IfOk result (λ closed. LinesFor ids.now problem.now forest.now (Ok closed)) }
@@ -96,7 +98,7 @@ fn closed_lines(
     let nodes = NodeIds::new(alloc, ids)?;
     match constraint_lines(alloc, forest, dofs, &nodes, problem) {
         Ok(closed) => Ok(closed),
-        Err(fault) => Err(Ending::from(fault)),
+        Err(fault) => Err(constraints_ending(fault)),
     }
 }
 
@@ -110,6 +112,7 @@ fn with_pattern(
     problem: Problem,
     interior: Interior,
 ) -> Result<Setup, Ending>
+    requires degree { dofs.degree ≡ 1 }
     requires numbered { IsNumberingOf forest dofs }
     requires size { length closed ≡ dofs.size }
     ensures ok { IfOk result (λ setup. PatternedFor interior problem forest closed (Ok setup)) }
@@ -123,6 +126,6 @@ fn with_pattern(
     };
     match Setup::build(rt, alloc, forest, dofs, closed, problem, flags) {
         Ok(setup) => Ok(setup),
-        Err(fault) => Err(Ending::from(fault)),
+        Err(fault) => Err(pattern_ending(fault)),
     }
 }

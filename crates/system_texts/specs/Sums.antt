@@ -12,7 +12,7 @@ use Rattle.mesh_loop.specs.Sum.{parts_of}
 use Rattle.run_words.specs.declared.options.Mode.{Mode}
 use Rattle.run_words.specs.declared.options.Mode.TheVariants as modes
 use Rattle.diagnostics.specs.declared.refusal.Refusal.{Refusal}
-use Rattle.diagnostics.specs.Layers.{of_sum}
+use Rattle.system_texts.specs.Endings.{of_sum}
 use Rattle.diagnostics.specs.Stages.{Says}
 
 -- a colouring of the cells, in which cells that write one row conflict

@@ -2,6 +2,7 @@
 //! or their summary; or the pattern; or the colours of the cells.
 #![tactic(auto)]
 
+mod endings;
 mod sums;
 mod targets;
 

@@ -6,6 +6,7 @@ ghost use Rattle.run_words.specs.Ranges.{IsWithinRanges};
 ghost use Rattle.diagnostics.specs.Stages.{EndsIn};
 ghost use Rattle.system_texts.specs.Sums.{IsColoringOf, SummedBy, Summed};
 
+use crate::endings::sum_ending;
 use colored_sum::assemble_colored;
 use conflict_coloring::{Colors, color};
 use diagnostics::Ending;
@@ -105,7 +106,7 @@ fn serial_rows(alloc: Global, digits: u32, setup: &Setup) -> Result<Rows, Ending
 {
     match assemble_serial(alloc, setup, digits) {
         Ok(rows) => Ok(rows),
-        Err(fault) => Err(Ending::from(fault)),
+        Err(fault) => Err(sum_ending(fault)),
     }
 }
 
@@ -123,7 +124,7 @@ fn ordered_rows<G: Gate + Sync, R: Threads + Wait + Sync>(
 {
     match assemble_ordered(rt, alloc, setup, plan, gate) {
         Ok(rows) => Ok(rows),
-        Err(fault) => Err(Ending::from(fault)),
+        Err(fault) => Err(sum_ending(fault)),
     }
 }
 
@@ -142,6 +143,6 @@ fn colored_rows<G: Gate + Sync, R: Threads + Sync>(
     let colors = colors_of(alloc, setup)?;
     match assemble_colored(rt, alloc, setup, &colors, plan, gate) {
         Ok(rows) => Ok(rows),
-        Err(fault) => Err(Ending::from(fault)),
+        Err(fault) => Err(sum_ending(fault)),
     }
 }

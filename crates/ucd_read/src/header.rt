@@ -14,9 +14,9 @@ const CELL_LIMIT: u32 = 1 << 21;
 
 /// How many nodes and cells a text has.
 #[derive(Clone, Copy)]
-pub(crate) struct Header {
-    pub(crate) nodes: u32,
-    pub(crate) cells: u32,
+pub struct Header {
+    pub nodes: u32,
+    pub cells: u32,
 }
 
 /// Reads the header, behind the comments.

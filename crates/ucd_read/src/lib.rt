@@ -5,11 +5,9 @@ mod cells;
 mod fault;
 mod header;
 mod nodes;
-mod places;
 mod reader;
-#[cfg(test)]
-mod tests;
-mod words;
 
+pub use cells::Cell;
 pub use fault::{UcdFault, UcdKind};
+pub use header::Header;
 pub use reader::{one_reading, read_ucd};

@@ -1,4 +1,4 @@
-use Rattle.std.proofs.Common.{◌≡◌, map, sym, subst, Vec, Global}
+use Rattle.std.proofs.Common.{map, sym, subst, Vec, Global}
 use Rattle.run_outputs.specs.declared.target.Target.{Target}
 use Rattle.std.specs.Prelude.{Ok, string_bytes}
 use Rattle.run_words.specs.Choice.{seen}

@@ -1,11 +1,9 @@
 use Rattle.std.proofs.Common.{subst}
 use Rattle.std.specs.Prelude.{Ok, IfOk, IfErr}
 use Rattle.run_words.specs.Choice.{seen}
-use Rattle.run_texts.specs.Read.{names_in}
 use Rattle.system_setup.specs.SetUp.{IsSetUp}
 use Rattle.diagnostics.specs.Stages.{EndsIn}
-use Rattle.assemble_core.specs.Answer.{interior_of}
-use Rattle.assemble_core.proofs.Endings.{read_defining, result_defining, result_prepared, result_few, result_calls}
+use Rattle.assemble_core.proofs.Endings.{read_defining, result_defining, result_prepared, result_few, result_reads}
 use Rattle.assemble_core.proofs.work.prepare.Goals as goal
 
 pub returns-in-Err-clause-ends : goal.returns-in-Err-clause-ends
@@ -28,4 +26,4 @@ returns-clause-ends g c =
 
 pub returns-clause-calls : goal.returns-clause-calls
 returns-clause-calls g c =
-    result_calls (IsSetUp c.interior_for.result c.in-Ok.read.0 c.in-Ok.read.1) (names_in (seen c.args.options.now).source) c.set_up.result (g.S.Store.counts c.args.store.now) (g.S.Store.counts c.read_source.new.store) c.set_up.ensures.refused c.in-Ok.ensures.calls
+    result_reads (IsSetUp c.interior_for.result c.in-Ok.read.0 c.in-Ok.read.1) (seen c.args.options.now).source c.set_up.result (g.S.Store.counts c.args.store.now) (g.S.Store.counts c.read_source.new.store) c.set_up.ensures.refused c.in-Ok.ensures.calls

@@ -1,4 +1,4 @@
-use Rattle.std.proofs.Common.{◌≡◌, ap, refl, length, arith}
+use Rattle.std.proofs.Common.{◌≡◌, ap, length, arith}
 use Rattle.std.specs.List.{flat_map, range_with_len}
 use Rattle.affine_constraints.specs.Lines.{lines_in}
 use Rattle.local_blocks.specs.Blocks.{seen}

@@ -1,12 +1,11 @@
-use Rattle.std.proofs.Common.{◌≡◌, ◌≤◌, ◌^◌, ◌∷◌, [], ℤ, FitsSigned, to_z, of_z, w64, arith}
-use Rattle.std.specs.Prelude.{unsigned_abs}
+use Rattle.std.proofs.Common.{◌≡◌, ◌∷◌, [], FitsSigned, to_z, of_z, w64, arith}
 use Rattle.std.specs.Int.{w128}
 use Rattle.std.proofs.lemmas.Int.{to_z-of_z}
 use Rattle.serial_sum.specs.declared.part.Target.TheVariants.{RightSide}
 use Rattle.block_sums.specs.Contributions.{to, constant_terms}
 use Rattle.block_sums.specs.Shares.{constant_share}
 use Rattle.block_sums.proofs.Runs.{same_adds}
-use Rattle.block_sums.proofs.Values.{fits_weight, fits_share, not_zero, constant_left}
+use Rattle.block_sums.proofs.Values.{fits_weight, not_zero, constant_left}
 use Rattle.block_sums.proofs.adding.add_constant.Goals as goal
 
 pub returns : goal.returns

@@ -1,4 +1,4 @@
-use Rattle.std.proofs.Common.{◌≡◌, ◌≤◌, ◌^◌, ℤ, pos, ap, ◌++◌, FitsSigned, w64, arith}
+use Rattle.std.proofs.Common.{◌≤◌, ◌^◌, ℤ, ap, ◌++◌, FitsSigned, w64}
 use Rattle.std.specs.Prelude.{unsigned_abs}
 use Rattle.std.specs.Int.{w128}
 use Rattle.std.specs.List.{flat_map}

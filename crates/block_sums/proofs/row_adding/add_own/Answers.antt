@@ -1,9 +1,9 @@
-use Rattle.std.proofs.Common.{◌≡◌, ◌∙◌, ◌<◌, ◌≤◌, ◌^◌, ◌∷◌, [], ap, ℕ, ℤ, pos, FitsSigned, to_z, of_z, w64, arith}
+use Rattle.std.proofs.Common.{◌≡◌, ◌∙◌, ◌<◌, ◌∷◌, [], ap, ℤ, pos, FitsSigned, to_z, of_z, w64, arith}
 use Rattle.std.specs.Prelude.{unsigned_abs}
 use Rattle.std.specs.Int.{w128}
 use Rattle.std.proofs.lemmas.Int.{to_z-of_z, to_z_pos}
 use Rattle.serial_sum.specs.declared.part.Target.TheVariants.{Column, RightSide}
-use Rattle.block_sums.specs.Contributions.{to, own_terms}
+use Rattle.block_sums.specs.Contributions.{to}
 use Rattle.block_sums.specs.Shares.{load_share}
 use Rattle.block_sums.specs.RowAdding.{AddsToRow}
 use Rattle.block_sums.proofs.RowRuns.{one_adds, both_add}

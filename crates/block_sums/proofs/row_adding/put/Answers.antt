@@ -1,9 +1,8 @@
-use Rattle.std.proofs.Common.{◌≡◌, ◌∙◌, ◌^◌, sym, ap, subst, List, ℕ, FitsSigned, lit<}
+use Rattle.std.proofs.Common.{◌∙◌, ◌^◌, ap, FitsSigned, lit<}
 use Rattle.std.specs.Int.{w128}
 use Rattle.std.proofs.lemmas.Int.{to_z-of_z}
 use Rattle.fem_fixed.proofs.Sizes.{size_fits}
-use Rattle.serial_sum.specs.Columns.{columns_at, has_column}
-use Rattle.serial_sum.specs.Rows.{FitsRow, added_row, is_added, has_target}
+use Rattle.serial_sum.specs.Rows.{added_row, is_added}
 use Rattle.serial_sum.proofs.RowLaws.{all_rising}
 use Rattle.block_sums.proofs.RowRuns.{put_adds}
 use Rattle.block_sums.proofs.row_adding.put.Goals as goal

@@ -1,4 +1,4 @@
-use Rattle.std.proofs.Common.{◌*ℤ◌, ◌-ℤ◌, ◌+◌, ◌*◌, ◌^◌, ◌≤◌, ◌≡◌, ◌∙◌, ℤ, pos, FitsSigned, w64, lit<, arith, ap, sym}
+use Rattle.std.proofs.Common.{◌*ℤ◌, ◌-ℤ◌, ◌+◌, ◌*◌, ◌^◌, ◌≤◌, ◌≡◌, ◌∙◌, ℤ, pos, FitsSigned, w64, lit<, arith, ap}
 use Rattle.std.specs.Prelude.{unsigned_abs}
 use Rattle.std.specs.Int.{w128}
 use Rattle.std.proofs.lemmas.Int.{to_z-of_z}

@@ -1,7 +1,7 @@
-use Rattle.std.proofs.Common.{◌≡◌, sym, ℤ, FitsSigned, w64}
+use Rattle.std.proofs.Common.{◌≡◌, sym, FitsSigned, w64}
 use Rattle.std.proofs.lemmas.Int.{to_z-of_z}
 use Rattle.fixed_q1.specs.BoundaryForm.{boundary_form}
-use Rattle.local_blocks.specs.Blocks.{LocalBlock, seen}
+use Rattle.local_blocks.specs.Blocks.{seen}
 use Rattle.cell_blocks.specs.Views.{given}
 use Rattle.cell_blocks.proofs.Made.{face_none, face_some, robin_fits}
 use Rattle.cell_blocks.proofs.fill.face_block.Goals as goal

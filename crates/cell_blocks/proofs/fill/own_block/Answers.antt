@@ -1,4 +1,4 @@
-use Rattle.std.proofs.Common.{◌≡◌, ℤ, FitsSigned, w64, refl, rules, lit≤, Ok, Err}
+use Rattle.std.proofs.Common.{◌≡◌, FitsSigned, w64, refl, rules, lit≤, Ok, Err}
 use Rattle.std.proofs.lemmas.Int.{to_z-of_z}
 use Rattle.fixed_q1.specs.LocalForm.{LocalForm}
 use Rattle.fixed_q1.specs.CellForm.{cell_form}
@@ -19,7 +19,7 @@ returns-in-Ok c =
     let is : own_form g c.args.cell ≡ Ok form =
     own_form_is g c.args.cell c.points-points.result c.material-material.result c.diffusion-diffusion.result c.source-source.result (Ok form) c.points-points.ensures.value c.material-material.ensures
     c.diffusion-diffusion.ensures.value c.source-source.ensures.value told in
-    made_block 4 c.of_cell.result (dofs_of g c.args.cell) form (own_form g c.args.cell) (CellBlock c.of_cell.result c.cell_matrix.new.matrix c.cell_matrix.new.rhs) (lit≤ tt) c.of_cell.ensures (search rules) refl is
+    made_block 4 c.cell_dofs.result (dofs_of g c.args.cell) form (own_form g c.args.cell) (CellBlock c.cell_dofs.result c.cell_matrix.new.matrix c.cell_matrix.new.rhs) (lit≤ tt) c.cell_dofs.ensures (search rules) refl is
     (cell_square c.points-points.result c.diffusion-diffusion.result c.source-source.result form (search rules) c.points-points.ensures.reach c.source-source.ensures.small told)
 
 pub returns-in-Err : goal.returns-in-Err

@@ -1,4 +1,4 @@
-use Rattle.std.proofs.Common.{◌≡◌, ◌∙◌, ◌++◌, ap, ℕ, ℤ, List, FitsSigned, w64, length, refl, rules, lit≤, Ok, Err, length-append}
+use Rattle.std.proofs.Common.{◌≡◌, ◌∙◌, ◌++◌, ap, FitsSigned, w64, refl, rules, lit≤, Ok, Err}
 use Rattle.std.proofs.lemmas.Int.{to_z-of_z}
 use Rattle.fixed_q1.specs.Geometry.{vector}
 use Rattle.fixed_q1.specs.LocalForm.{LocalForm, zero_load}
@@ -21,7 +21,7 @@ returns-in-Ok c =
     (vector c.place_of.result.0 c.place_of.result.1) (vector c.place_of-2.result.0 c.place_of-2.result.1) c.penalty.result
     (Ok form) c.points.ensures.value c.points-2.ensures.value c.place_of.ensures.value c.place_of-2.ensures.value c.part_ends-ends.ensures.value c.penalty.ensures.value told in
     let dofs : c.both_dofs.result ≡ dofs_of g c.args.here.cell ++ dofs_of g c.args.there.cell =
-    c.both_dofs.ensures ∙ ap (λ xs. xs ++ c.of_cell-in-Ok.result) c.of_cell.ensures ∙ ap (λ ys. dofs_of g c.args.here.cell ++ ys) c.of_cell-in-Ok.ensures in
+    c.both_dofs.ensures ∙ ap (λ xs. xs ++ c.cell_dofs-in-Ok.result) c.cell_dofs.ensures ∙ ap (λ ys. dofs_of g c.args.here.cell ++ ys) c.cell_dofs-in-Ok.ensures in
     made_block 8 c.both_dofs.result (dofs_of g c.args.here.cell ++ dofs_of g c.args.there.cell) form (part_form g c.args.here.cell c.args.here.face c.args.there.cell c.args.there.face c.args.here.part c.args.there.part)
     (PartBlock c.both_dofs.result c.jump_matrix.new.matrix (zero_load part_numbers)) (lit≤ tt) dofs (search rules) refl is
     (part_square c.points.result c.points-2.result (vector c.place_of.result.0 c.place_of.result.1) (vector c.place_of-2.result.0 c.place_of-2.result.1) c.part_ends-ends.result c.penalty.result form told)

@@ -1,4 +1,4 @@
-use Rattle.std.proofs.Common.{◌≡◌, sym, subst, refl, lit≤, rules, FitsSigned, ℤ, w64}
+use Rattle.std.proofs.Common.{◌≡◌, subst, lit≤, rules, FitsSigned, w64}
 use Rattle.std.proofs.lemmas.Int.{to_z-of_z}
 use Rattle.fixed_q1.specs.BoundaryForm.{boundary_form}
 use Rattle.fixed_q1.specs.LocalForm.{LocalForm}

@@ -1,4 +1,4 @@
-use Rattle.std.proofs.Common.{subst, ◌≡◌, ℕ, ◌<◌, List, length, arith}
+use Rattle.std.proofs.Common.{subst, ℕ, ◌<◌, List, length, arith}
 use Rattle.hanging_refine.specs.Refinement.{IsRefinedBy, IsRefusal}
 use Rattle.constrained_mesh.proofs.StepLaws.{step_more, step_refused}
 use Rattle.constrained_mesh.proofs.refinement.refine_by_steps.Goals as goal

@@ -1,9 +1,6 @@
-use Rattle.std.proofs.Common.{◌≡◌, ◌∙◌, refl, subst, ◌≤◌, ℕ, List, Ok, Err, arith}
-use Rattle.std.specs.Prelude.{ℤ, unsigned_abs}
-use Rattle.std.specs.declared.result.Result.{Result}
+use Rattle.std.proofs.Common.{◌≡◌, ◌∙◌, refl, subst, Ok, Err, arith}
+use Rattle.std.specs.Prelude.{ℤ}
 use Rattle.std.proofs.lemmas.Int.{to_z-of_z, fits_signed_from_abs}
-use Rattle.constrained_mesh.specs.declared.fault.ConstraintFault.{ConstraintFault}
-use Rattle.constrained_mesh.specs.MeshLines.{Table}
 use Rattle.constrained_mesh.specs.Nodes.{dof_told}
 use Rattle.constrained_mesh.specs.Ties.{with_tie}
 use Rattle.constrained_mesh.proofs.TieLaws.{tie_of, no_ties, tie_more, tie_fault}

@@ -1,5 +1,5 @@
 use Rattle.std.proofs.Common.{arith}
-use Rattle.matrix_market.proofs.Digits.{digit_count, zero_digits}
+use Rattle.fem_text.proofs.Digits.{digit_count, zero_digits}
 use Rattle.matrix_market.proofs.sizes.digits.Goals as goal
 
 pub returns-in-Some-clause-value : goal.returns-in-Some-clause-value

@@ -1,5 +1,5 @@
 use Rattle.std.proofs.Common.{arith}
-use Rattle.matrix_market.proofs.Digits.{room_for_digit}
+use Rattle.fem_text.proofs.Digits.{room_for_digit}
 use Rattle.matrix_market.proofs.values.read_digits.Goals as goal
 
 pub overflow_mul-value : goal.overflow_mul-value

@@ -1,4 +1,3 @@
-use Rattle.std.proofs.Common.{◌∙◌}
 use Rattle.mesh_loop.specs.Parts.{shown}
 use Rattle.mesh_loop.proofs.Gathering.{pattern_is}
 use Rattle.mesh_loop.proofs.gather.make_parts.Goals as goal

@@ -5,4 +5,4 @@ use Rattle.mesh_loop.proofs.gather.push_cell_dofs.Goals as goal
 
 pub returns-clause-below : goal.returns-clause-below
 returns-clause-below c =
-    cell_below (shown c.args.source.now).given.forest (shown c.args.source.now).given.dofs c.args.cell c.of_cell-dofs.result c.requires.matched.numbered c.requires.cell c.of_cell-dofs.ensures (search rules)
+    cell_below (shown c.args.source.now).given.forest (shown c.args.source.now).given.dofs c.args.cell c.cell_dofs-dofs.result c.requires.matched.numbered c.requires.cell c.cell_dofs-dofs.ensures (search rules)

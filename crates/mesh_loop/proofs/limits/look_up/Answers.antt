@@ -12,10 +12,10 @@ returns-in-Interior-clause-block c =
     let g : Given = given c.args.setting.now in
     let P : Visit → Type 0 = λ visit. IfOk (block_of g c.args.cell visit) IsBlock in
     subst P (sym c.in-Interior.is)
-    (part_limited g c.args.cell c.in-Interior.face c.in-Interior.other c.in-Interior.other_face c.in-Interior.here c.in-Interior.there c.of_cell-dofs.result c.of_cell-others.result c.of_cell-dofs.ensures (search rules) c.of_cell-others.ensures (search rules))
+    (part_limited g c.args.cell c.in-Interior.face c.in-Interior.other c.in-Interior.other_face c.in-Interior.here c.in-Interior.there c.cell_dofs-dofs.result c.cell_dofs-others.result c.cell_dofs-dofs.ensures (search rules) c.cell_dofs-others.ensures (search rules))
 
 pub returns-in-Interior-clause-some : goal.returns-in-Interior-clause-some
 returns-in-Interior-clause-some c =
     let g : Given = given c.args.setting.now in
     let P : Visit → Type 0 = λ visit. 0 < length (visit_dofs g c.args.cell visit) in
-    subst P (sym c.in-Interior.is) (some_of_part g c.args.cell c.in-Interior.other c.of_cell-dofs.result c.of_cell-dofs.ensures (search rules))
+    subst P (sym c.in-Interior.is) (some_of_part g c.args.cell c.in-Interior.other c.cell_dofs-dofs.result c.cell_dofs-dofs.ensures (search rules))

@@ -1,4 +1,4 @@
-use Rattle.std.proofs.Common.{◌<◌, length, slice_index, refl}
+use Rattle.std.proofs.Common.{length, slice_index}
 use Rattle.std.proofs.lemmas.List.{get_or_default}
 use Rattle.affine_constraints.specs.Lines.{lines_in}
 use Rattle.mesh_loop.proofs.MasterSteps.{no_masters, none_below, masters_more, masters_below_more}

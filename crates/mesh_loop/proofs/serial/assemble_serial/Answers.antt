@@ -1,5 +1,4 @@
 use Rattle.std.proofs.Common.{◌≡◌, ◌+◌, ◌≤◌, List, ap, sym, subst, length, arith, Some, None}
-use Rattle.std.specs.List.{All, range_with_len}
 use Rattle.std.proofs.lemmas.List.Elements.{All-nil}
 use Rattle.cell_blocks.specs.Visited.{blocks_in}
 use Rattle.serial_sum.specs.Rows.{FitsRows}

@@ -1,4 +1,4 @@
-use Rattle.std.proofs.Common.{◌≡◌, ◌∙◌, sym, refl, inr}
+use Rattle.std.proofs.Common.{◌∙◌, sym, refl, inr}
 use Rattle.std.specs.Prelude.{pos, unwrap_or}
 use Rattle.problem_read.proofs.Sums.{bad_term, bad_constant, part_constant, part_none}
 use Rattle.problem_read.proofs.ItemLists.{none_when, some_when}

@@ -1,12 +1,10 @@
-use Rattle.std.proofs.Common.{◌≡◌, ◌∙◌, sym, ap, refl, subst, ◌<◌, ◌≤◌, length, arith}
-use Rattle.std.specs.Prelude.{Some, None, Ok, Err, IfOk, IfErr}
+use Rattle.std.proofs.Common.{refl, ◌<◌, ◌≤◌, length, arith}
 use Rattle.std.proofs.lemmas.Grind.{common_steps}
 use Rattle.diagnostics.specs.declared.ending.Role.TheVariants as roles
 use Rattle.diagnostics.specs.declared.refusal.Refusal.TheVariants.{Limit}
-use Rattle.diagnostics.specs.declared.kinds.LimitKind.TheVariants.{MeshSize, ProblemSize}
-use Rattle.diagnostics.specs.Stages.{stops, goes}
-use Rattle.diagnostics.specs.Stages as stages
-use Rattle.run_texts.specs.Texts.{text_limit, MeshIn, ProblemIn, MeshOf, ProblemOf}
+use Rattle.diagnostics.specs.declared.kinds.LimitKind.TheVariants.{ProblemSize}
+use Rattle.diagnostics.specs.Stages.{stops}
+use Rattle.run_texts.specs.Texts.{text_limit, ProblemIn}
 use Rattle.run_texts.proofs.Reading.{of_text_result, of_text_ends}
 use Rattle.run_texts.proofs.read.problem_of.Goals as goal
 

@@ -1,14 +1,10 @@
-use Rattle.std.proofs.Common.{◌≡◌, ◌∙◌, sym, ap, refl, subst, ◌<◌, ◌≤◌, length, arith}
-use Rattle.std.specs.Prelude.{Some, None, Ok, Err, IfOk, IfErr}
-use Rattle.std.proofs.lemmas.Grind.{common_steps}
+use Rattle.std.proofs.Common.{◌∙◌, sym, ap, subst}
+use Rattle.std.specs.Prelude.{Ok, IfOk, IfErr}
 use Rattle.diagnostics.specs.declared.ending.Role.TheVariants as roles
-use Rattle.diagnostics.specs.declared.refusal.Refusal.TheVariants.{Limit}
-use Rattle.diagnostics.specs.declared.kinds.LimitKind.TheVariants.{MeshSize, ProblemSize}
 use Rattle.diagnostics.specs.Stages.{stops, goes}
 use Rattle.diagnostics.specs.Stages as stages
-use Rattle.run_texts.specs.Texts.{text_limit, MeshIn, ProblemIn, MeshOf, ProblemOf}
+use Rattle.run_texts.specs.Texts.{MeshIn}
 use Rattle.fem_text.specs.Counts.{after_call}
-use Rattle.run_texts.specs.Read.{is_read_fault}
 use Rattle.run_texts.proofs.Reading.{read_ends, under_ok, under_ends, no_read_fault}
 use Rattle.run_texts.proofs.read.read_mesh.Goals as goal
 

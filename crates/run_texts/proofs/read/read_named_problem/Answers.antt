@@ -1,17 +1,14 @@
-use Rattle.std.proofs.Common.{◌≡◌, ◌∙◌, sym, ap, refl, subst, ◌<◌, ◌≤◌, length, arith, lit≤, List, []}
-use Rattle.std.specs.Prelude.{Some, None, Ok, Err, IfOk, IfErr}
-use Rattle.std.proofs.lemmas.Grind.{common_steps}
+use Rattle.std.proofs.Common.{◌≡◌, ◌∙◌, sym, ap, refl, subst}
+use Rattle.std.specs.Prelude.{Ok, Err, IfOk, IfErr}
 use Rattle.diagnostics.specs.declared.ending.Role.TheVariants as roles
-use Rattle.diagnostics.specs.declared.refusal.Refusal.TheVariants.{Limit}
-use Rattle.diagnostics.specs.declared.kinds.LimitKind.TheVariants.{MeshSize, ProblemSize}
 use Rattle.diagnostics.specs.Stages.{stops, goes}
 use Rattle.diagnostics.specs.Stages as stages
-use Rattle.run_texts.specs.Texts.{text_limit, MeshIn, ProblemIn, MeshOf, ProblemOf}
+use Rattle.run_texts.specs.Texts.{ProblemIn}
 use Rattle.std.specs.Option.{option_copied}
 use Rattle.problem_read.specs.Entries.{ProblemParts}
-use Rattle.run_texts.specs.Read.{EndsProblem, ProblemUnder, CallsEnd, name_count, is_read_fault}
-use Rattle.run_texts.proofs.Sources.{one_call}
-use Rattle.run_texts.proofs.Reading.{no_name_ok, no_name_ends, problem_read_ends, problem_under_ends, under_ok, one_read, no_read}
+use Rattle.run_texts.specs.Read.{EndsProblem, ProblemUnder, after_read, is_read_fault}
+use Rattle.fem_text.specs.Counts.{after_call}
+use Rattle.run_texts.proofs.Reading.{no_name_ok, no_name_ends, problem_read_ends, problem_under_ends, under_ok, no_read_fault}
 use Rattle.run_texts.proofs.read.read_named_problem.Goals as goal
 
 pub returns-in_default-clause-ok : goal.returns-in_default-clause-ok
@@ -40,15 +37,14 @@ returns-clause-ends g c =
 
 pub returns-clause-calls : goal.returns-clause-calls
 returns-clause-calls g c =
-    subst (λ name. CallsEnd (name_count (option_copied name)) (is_read_fault c.problem_in-2.result) (g.S.Store.counts c.args.store.now) (g.S.Store.counts c.read_text.new.store)) (sym c.in-Some.is)
-    (one_read (ProblemIn c.as_slice.result.now) c.problem_in-2.result (g.S.Store.counts c.args.store.now) (g.S.Store.counts c.read_text.new.store) c.problem_in-2.ensures.refused c.in-Ok.ensures.calls)
+    subst (λ name. g.S.Store.counts c.read_text.new.store ≡ after_read (option_copied name) (is_read_fault c.problem_in-2.result) (g.S.Store.counts c.args.store.now)) (sym c.in-Some.is)
+    (c.in-Ok.ensures.calls ∙ ap (λ b. after_call b (g.S.Store.counts c.args.store.now)) (sym (no_read_fault (ProblemIn c.as_slice.result.now) c.problem_in-2.result c.problem_in-2.ensures.refused)))
 
 pub returns-in_default-clause-calls : goal.returns-in_default-clause-calls
 returns-in_default-clause-calls g c =
-    subst (λ name. CallsEnd (name_count (option_copied name)) (is_read_fault c.problem_in.result) (g.S.Store.counts c.args.store.now) (g.S.Store.counts c.args.store.now)) (sym c.in_default.is)
-    (no_read (ProblemIn []) c.problem_in.result (g.S.Store.counts c.args.store.now) c.problem_in.ensures.refused)
+    subst (λ name. g.S.Store.counts c.args.store.now ≡ after_read (option_copied name) (is_read_fault c.problem_in.result) (g.S.Store.counts c.args.store.now)) (sym c.in_default.is) refl
 
 pub returns-in-Err-clause-calls : goal.returns-in-Err-clause-calls
 returns-in-Err-clause-calls g c =
-    subst (λ name. CallsEnd (name_count (option_copied name)) (is_read_fault {X = ProblemParts} (Err c.in-Err.ending)) (g.S.Store.counts c.args.store.now) (g.S.Store.counts c.read_text.new.store)) (sym c.in-Some.is)
-    (one_call 1 (is_read_fault {X = ProblemParts} (Err c.in-Err.ending)) (g.S.Store.counts c.args.store.now) (g.S.Store.counts c.read_text.new.store) (lit≤ tt) c.in-Err.ensures.calls)
+    subst (λ name. g.S.Store.counts c.read_text.new.store ≡ after_read (option_copied name) (is_read_fault {X = ProblemParts} (Err c.in-Err.ending)) (g.S.Store.counts c.args.store.now)) (sym c.in-Some.is)
+    c.in-Err.ensures.calls

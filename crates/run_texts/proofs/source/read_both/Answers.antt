@@ -1,15 +1,9 @@
-use Rattle.std.proofs.Common.{◌≡◌, ◌∙◌, sym, ap, refl, subst, ◌<◌, ◌≤◌, length, arith, true, false, suc}
-use Rattle.std.specs.Prelude.{Some, None, Ok, Err, IfOk, IfErr}
-use Rattle.std.proofs.lemmas.Grind.{common_steps}
-use Rattle.diagnostics.specs.declared.ending.Role.TheVariants as roles
-use Rattle.diagnostics.specs.declared.refusal.Refusal.TheVariants.{Limit}
-use Rattle.diagnostics.specs.declared.kinds.LimitKind.TheVariants.{MeshSize, ProblemSize}
-use Rattle.diagnostics.specs.Stages.{stops, goes}
-use Rattle.diagnostics.specs.Stages as stages
-use Rattle.run_texts.specs.Texts.{text_limit, MeshIn, ProblemIn, MeshOf, ProblemOf}
-use Rattle.run_texts.proofs.Sources.{both_ok, mesh_ends_both, problem_ends_both, one_call, next_calls, some_names}
+use Rattle.std.proofs.Common.{subst}
+use Rattle.std.specs.Prelude.{Ok}
+use Rattle.run_texts.proofs.Sources.{both_ok, mesh_ends_both, problem_ends_both, mesh_reads, both_reads, problem_reads}
 use Rattle.std.specs.Option.{option_copied}
-use Rattle.run_texts.specs.Read.{ProblemUnder, EndsProblem, CallsEnd, name_count, is_read_fault}
+use Rattle.run_texts.specs.Read.{MeshUnder, ProblemUnder, EndsProblem}
+use Rattle.fem_fixed.specs.Mesh.{Mesh}
 use Rattle.problem_read.specs.Entries.{ProblemParts}
 use Rattle.run_texts.proofs.source.read_both.Goals as goal
 
@@ -23,7 +17,7 @@ returns-in-Ok-read_named_problem-clause-ok g c =
 
 pub returns-in-Ok-read_named_problem-clause-calls : goal.returns-in-Ok-read_named_problem-clause-calls
 returns-in-Ok-read_named_problem-clause-calls g c =
-    next_calls (name_count (option_copied c.args.problem)) false (g.S.Store.counts c.args.store.now) (g.S.Store.counts c.read_mesh.new.store) (g.S.Store.counts c.read_named_problem.new.store) c.in-Ok.ensures.calls c.in-Ok-read_named_problem.ensures.calls
+    both_reads (option_copied c.args.problem) (g.S.Store.counts c.args.store.now) (g.S.Store.counts c.read_mesh.new.store) (g.S.Store.counts c.read_named_problem.new.store) c.in-Ok.ensures.calls c.in-Ok-read_named_problem.ensures.calls
 
 pub returns-in-Err-read_named_problem-clause-ends : goal.returns-in-Err-read_named_problem-clause-ends
 returns-in-Err-read_named_problem-clause-ends g c =
@@ -32,8 +26,10 @@ returns-in-Err-read_named_problem-clause-ends g c =
 
 pub returns-in-Err-read_named_problem-clause-calls : goal.returns-in-Err-read_named_problem-clause-calls
 returns-in-Err-read_named_problem-clause-calls g c =
-    next_calls (name_count (option_copied c.args.problem)) (is_read_fault {X = ProblemParts} (Err c.in-Err-read_named_problem.ending)) (g.S.Store.counts c.args.store.now) (g.S.Store.counts c.read_mesh.new.store) (g.S.Store.counts c.read_named_problem.new.store)
-    c.in-Ok.ensures.calls c.in-Err-read_named_problem.ensures.calls
+    problem_reads (Mesh × ProblemParts) (g.S.Store.holds c.read_mesh.new.store) c.args.mesh.now (option_copied c.args.problem) c.in-Err-read_named_problem.ending (g.S.Store.counts c.args.store.now) (g.S.Store.counts c.read_mesh.new.store) (g.S.Store.counts c.read_named_problem.new.store)
+    c.in-Err-read_named_problem.ensures.ends c.in-Ok.ensures.calls c.in-Err-read_named_problem.ensures.calls
 
 pub returns-in-Err-clause-calls : goal.returns-in-Err-clause-calls
-returns-in-Err-clause-calls g c = one_call (suc (name_count (option_copied c.args.problem))) (is_read_fault {X = ProblemParts} (Err c.in-Err.ending)) (g.S.Store.counts c.args.store.now) (g.S.Store.counts c.read_mesh.new.store) (some_names (option_copied c.args.problem)) c.in-Err.ensures.calls
+returns-in-Err-clause-calls g c =
+    mesh_reads (Mesh × ProblemParts) (MeshUnder (g.S.Store.holds c.args.store.now) c.args.mesh.now) c.args.mesh.now (option_copied c.args.problem) c.in-Err.ending (g.S.Store.counts c.args.store.now) (g.S.Store.counts c.read_mesh.new.store)
+    c.in-Err.ensures.ends c.in-Err.ensures.calls

@@ -1,15 +1,8 @@
-use Rattle.std.proofs.Common.{◌≡◌, ◌∙◌, sym, ap, refl, subst, ◌<◌, ◌≤◌, length, arith, lit≤}
-use Rattle.std.specs.Prelude.{Some, None, Ok, Err, IfOk, IfErr}
-use Rattle.std.proofs.lemmas.Grind.{common_steps}
-use Rattle.diagnostics.specs.declared.ending.Role.TheVariants as roles
-use Rattle.diagnostics.specs.declared.refusal.Refusal.TheVariants.{Limit}
-use Rattle.diagnostics.specs.declared.kinds.LimitKind.TheVariants.{MeshSize, ProblemSize}
-use Rattle.diagnostics.specs.Stages.{stops, goes}
-use Rattle.diagnostics.specs.Stages as stages
-use Rattle.run_texts.specs.Texts.{text_limit, MeshIn, ProblemIn, MeshOf, ProblemOf}
+use Rattle.std.proofs.Common.{sym, subst}
+use Rattle.std.specs.Prelude.{Ok, IfOk, IfErr}
 use Rattle.run_words.specs.Choice.{seen_source}
-use Rattle.run_texts.specs.Read.{SourceRead, EndsReading, CallsEnd, names_in, is_read_fault}
-use Rattle.run_texts.proofs.Sources.{drawn_ends}
+use Rattle.run_texts.specs.Read.{SourceRead, EndsReading, ReadsMade}
+use Rattle.run_texts.proofs.Sources.{drawn_ends, drawn_reads}
 use Rattle.run_texts.proofs.source.read_source.Goals as goal
 
 pub returns-in-Texts-clause-ok : goal.returns-in-Texts-clause-ok
@@ -26,9 +19,9 @@ returns-in-Generated-clause-ends g c =
 
 pub returns-in-Texts-clause-calls : goal.returns-in-Texts-clause-calls
 returns-in-Texts-clause-calls g c =
-    subst (λ source. CallsEnd (names_in (seen_source source)) (is_read_fault c.read_both.result) (g.S.Store.counts c.args.store.now) (g.S.Store.counts c.read_both.new.store)) (sym c.in-Texts.is) c.read_both.ensures.calls
+    subst (λ source. ReadsMade (seen_source source) c.read_both.result (g.S.Store.counts c.args.store.now) (g.S.Store.counts c.read_both.new.store)) (sym c.in-Texts.is) c.read_both.ensures.calls
 
 pub returns-in-Generated-clause-calls : goal.returns-in-Generated-clause-calls
 returns-in-Generated-clause-calls g c =
-    subst (λ source. CallsEnd (names_in (seen_source source)) (is_read_fault c.drawn.result) (g.S.Store.counts c.args.store.now) (g.S.Store.counts c.args.store.now)) (sym c.in-Generated.is)
-    (subst (λ b. CallsEnd 0 b (g.S.Store.counts c.args.store.now) (g.S.Store.counts c.args.store.now)) (sym c.drawn.ensures.never) (0, lit≤ tt, refl))
+    subst (λ source. ReadsMade (seen_source source) c.drawn.result (g.S.Store.counts c.args.store.now) (g.S.Store.counts c.args.store.now)) (sym c.in-Generated.is)
+    (drawn_reads c.in-Generated.n c.in-Generated.seed c.drawn.result (g.S.Store.counts c.args.store.now) c.drawn.ensures.never)

@@ -1,4 +1,4 @@
-use Rattle.std.proofs.Common.{◌≡◌, ◌∙◌, ◌<◌, length, arith, length-set}
+use Rattle.std.proofs.Common.{◌<◌, arith, length-set}
 use Rattle.cell_blocks.proofs.Kept.{put_blocks, used_small}
 use Rattle.cell_blocks.proofs.copy.CellCopy.put.Goals as goal
 

@@ -13,7 +13,7 @@ pub returns-in-Constraint : goal.returns-in-Constraint
 returns-in-Constraint g c = rw c.in-Constraint.is (rw (← c.word-in-Constraint.ensures) c.put_fault-in-Constraint.ensures)
 
 pub returns-in-Local : goal.returns-in-Local
-returns-in-Local g c = rw c.in-Local.is (rw (← c.local_word.ensures) c.put_named-in-Local.ensures)
+returns-in-Local g c = rw c.in-Local.is (rw (← c.word-in-Local.ensures) c.put_named-in-Local.ensures)
 
 pub returns-in-Sum : goal.returns-in-Sum
 returns-in-Sum g c = rw c.in-Sum.is c.put_sum.ensures

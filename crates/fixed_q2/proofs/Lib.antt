@@ -1,0 +1,13 @@
+pub mod Loads
+pub mod NoSource
+pub mod Edges
+pub mod Rows
+pub mod Points
+pub mod Fluxes
+pub mod Shares
+pub mod Nine
+pub mod Algebra
+pub mod Fits
+pub mod ShapeSizes
+pub mod Forms
+pub mod Jumps

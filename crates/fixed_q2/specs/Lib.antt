@@ -1,0 +1,5 @@
+pub mod Biquadratic
+pub mod CellForm
+pub mod BoundaryForm
+pub mod JumpForm
+pub mod Samples

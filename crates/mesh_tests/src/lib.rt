@@ -1,0 +1,16 @@
+//! Worked values of meshes that no run of the program shows: sides and visits of refined cells, dofs of degree two, the
+//! cells that a solution asks to refine, and products without a matrix.
+#![tactic(auto)]
+
+#[cfg(test)]
+mod dofs;
+#[cfg(test)]
+mod marks;
+#[cfg(test)]
+mod meshes;
+#[cfg(test)]
+mod products;
+#[cfg(test)]
+mod sides;
+#[cfg(test)]
+mod visits;

@@ -1,0 +1,10 @@
+pub mod Rows
+pub mod OneSection
+pub mod FormatRows
+pub mod OneReading
+pub mod TextFaults
+pub mod Kept
+pub mod Bounds
+pub mod Steps
+pub mod Front
+pub mod PassedOver

@@ -1,0 +1,9 @@
+pub mod Faults
+pub mod Others
+pub mod Sections
+pub mod Format
+pub mod Shapes
+pub mod Elements
+pub mod Msh
+pub mod Numbers
+pub mod Tables

@@ -1,5 +1,0 @@
-use Rattle.scratch_pool.specs.Pools.{IsIdleAt}
-use Rattle.scratch_pool.proofs.tests.borrow.Given as goal
-
-abbrev pub invariant-loop : goal.invariant-loop
-invariant-loop l = IsIdleAt l.pool.table l.pass
