@@ -49,8 +49,8 @@ pub record IsUntouched (takes : Mode → Bool) (words : List (List ℕ)) (before
   pub reads : ReadsWell takes words before.store now.store
   pub same : now ≡ after_reads before now.store
 
--- the read of this text failed, behind those before it, which went well; nothing is refused before it, and nothing was
--- written or put
+-- a read failed: the first where this text is the mesh, and the second, behind one that went well, where it is the problem;
+-- nothing is refused before this text, and nothing was written or put
 pub record IsReadFault (takes : Mode → Bool) (words : List (List ℕ)) (before now : World) (role : Role) : Type 0 where
   pub choice : Choice
   pub asked : Asked takes words (Ok choice)

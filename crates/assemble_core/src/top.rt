@@ -24,7 +24,7 @@ use std::thread::Threads;
 /// | Status | Where |
 /// |---|---|
 /// | 2 | the words ask for nothing |
-/// | 10 | a read failed, that of the text in the line |
+/// | 10 | a read failed: the first where the line names the mesh, the second where it names the problem |
 /// | 17 | the store tells that a text is absent |
 /// | 9 | a text, a count, a level, the cells or the entries pass their limit |
 /// | 3 | the mesh text has another fault |
