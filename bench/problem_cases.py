@@ -4,6 +4,7 @@ from decimal import Decimal
 from mesh_cases import as_text, spelled, with_fault
 
 VALUES = ["1", "0.5", "3", "0.001", "0", "-1", "2", "16384", "32768", "-32768", "0.0000152587890625", "0.33333", "17.25"]
+SUBDOMAINS = [0, 1, 2, 5, 4294967295]
 WEIGHTS = ["1", "0.5", "-1", "0.25", "2", "16", "-16", "0.3333", "0", "0.00001", "3"]
 
 
@@ -21,6 +22,8 @@ def coefficient_lines(rng):
         for word in ("diffusion", "source"):
             if rng.random() < 0.3:
                 lines.append(f"{word} {material} {value(rng)}")
+        if rng.random() < 0.2:
+            lines.append(f"subdomain {material} {rng.choice(SUBDOMAINS)}")
     for boundary in (0, 1, 2, 7, 4294967295):
         if rng.random() < 0.25:
             lines.append(f"robin {boundary} {value(rng)} {value(rng)}")
@@ -103,5 +106,6 @@ def random_problem_text(rng, mesh, faults):
     if faults and lines and rng.random() < 0.3:
         lines.append(rng.choice(["constraint 1 = 1*2 + 3 + 1*3", "constraint 1 = 1**2", "constraint 1 =", "refine",
                                  "constraint 1 = *2", "constraint 1 = 1*", "constraint 1 = 1*2 + +", "Penalty 1",
-                                 "constraint 1 = 17*2", "penalty 32768.00001", "constraint 1 = 1*2 +"]))
+                                 "constraint 1 = 17*2", "penalty 32768.00001", "constraint 1 = 1*2 +",
+                                 "subdomain 1", "subdomain 0 0.5", "subdomain 0 4294967296"]))
     return as_text(rng, lines, comments=True)

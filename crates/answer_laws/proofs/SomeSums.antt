@@ -5,7 +5,7 @@ use Rattle.std.specs.declared.option.Option.{Option}
 use Rattle.std.specs.declared.result.Result.{Result}
 use Rattle.conflict_coloring.specs.Laws.{HaveAColoring}
 use Rattle.serial_sum.specs.SerialSum.{SumIs}
-use Rattle.serial_sum.specs.declared.part.CellPart.{CellPart}
+use Rattle.serial_sum.specs.Parts.{CellPart}
 use Rattle.serial_sum.specs.declared.sum.AssembleFault.TheVariants as faults
 use Rattle.serial_sum.specs.declared.sum.Failure.{Failure}
 use Rattle.serial_sum.specs.declared.sum.Failure.TheVariants.{Local, Sum}

@@ -8,7 +8,7 @@ use Rattle.conflict_coloring.specs.Coloring.{Coloring, IsColoring}
 use Rattle.conflict_coloring.specs.Laws.{HaveOneColoring}
 use Rattle.serial_sum.specs.SerialSum.{SumIs}
 use Rattle.serial_sum.specs.Steps.{FaultIs, failure_fault}
-use Rattle.serial_sum.specs.declared.part.CellPart.{CellPart}
+use Rattle.serial_sum.specs.Parts.{CellPart}
 use Rattle.serial_sum.specs.declared.sum.AssembleFault.{AssembleFault}
 use Rattle.serial_sum.specs.declared.sum.AssembleFault.TheVariants as faults
 use Rattle.serial_sum.specs.declared.sum.Failure.{Failure}

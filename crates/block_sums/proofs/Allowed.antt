@@ -8,16 +8,15 @@ use Rattle.std.proofs.lemmas.List.FromFn.{get_or-range_with_len, length-range_wi
 use Rattle.affine_constraints.specs.declared.term.Term.{Term}
 use Rattle.affine_constraints.specs.Lines.{AffineLine, Lines, lines_in}
 use Rattle.affine_constraints.specs.Closing.{AreClosedForms, IsClosedForm}
-use Rattle.local_blocks.specs.Blocks.{LocalBlock, IsBlock}
-use Rattle.local_blocks.proofs.Entries.{entry_small, load_small}
+use Rattle.cell_blocks.specs.LocalBlocks.{LocalBlock, IsBlock}
+use Rattle.cell_blocks.proofs.Entries.{entry_small, load_small}
 use Rattle.serial_sum.specs.Rows.{IsFor}
 use Rattle.serial_sum.specs.declared.part.Contribution.{Contribution}
 use Rattle.serial_sum.specs.declared.part.Target.TheVariants.{Column, RightSide}
 use Rattle.block_sums.specs.Masters.{masters, constant_of, Couples, Holds, IsMasterFor}
 use Rattle.block_sums.specs.Contributions.{to, is_zero, column_terms, constant_terms, master_terms, row_terms, own_by, own_terms, contributions, dof_at, entry_at, load_at, numbers}
 use Rattle.block_sums.specs.Shares.{load_share, entry_share, constant_share}
-use Rattle.block_sums.specs.Adding.{CouplesAll, IsWeight}
-use Rattle.block_sums.specs.SmallLines.{IsSmallLine, AreSmallLines}
+use Rattle.block_sums.specs.SmallLines.{IsWeight, IsSmallLine, AreSmallLines}
 use Rattle.block_sums.proofs.Sizes.{load_share_small, entry_share_small, constant_share_small, masters_small, constant_small}
 use Rattle.block_sums.proofs.Values.{master_for}
 
@@ -38,7 +37,7 @@ unless_zero pattern true c h = All-nil (IsFor pattern)
 unless_zero pattern false c h = All-cons (IsFor pattern) c [] h (All-nil (IsFor pattern))
 
 column_for : (pattern : List (List ℕ)) (lines : Lines) (master : Term) (entry : ℤ) (dof : ℕ) → AreSmallLines lines → IsWeight master → unsigned_abs entry ≤ 2 ^ 72 →
-    master.dof < length pattern → CouplesAll pattern master.dof (masters lines dof) → All (IsFor pattern) (column_terms lines master entry dof)
+    master.dof < length pattern → All (λ (p : Term). Couples pattern master.dof p.dof) (masters lines dof) → All (IsFor pattern) (column_terms lines master entry dof)
 column_for pattern lines master entry dof small weight size row others =
     All-append (IsFor pattern) (map (λ (other : Term). to master.dof (Column other.dof) (entry_share master.weight entry other.weight)) (masters lines dof))
     (constant_terms master.dof master.weight entry (constant_of lines dof))

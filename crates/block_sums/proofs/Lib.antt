@@ -1,6 +1,8 @@
 pub mod Runs
+pub mod Splits
 pub mod Values
 pub mod Sizes
 pub mod Allowed
-pub mod RowRuns
 pub mod Units
+pub mod CellSteps
+pub mod RowCells

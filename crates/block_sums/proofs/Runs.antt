@@ -1,50 +1,46 @@
 -- Contributions added one list after another.
-use Rattle.std.proofs.Common.{◌≡◌, ◌∙◌, sym, ap, refl, ℕ, zero, suc, ◌+◌, ◌<◌, Bool, List, [], ◌∷◌, ◌++◌, length, map, take, arith, slice_index_or}
-use Rattle.std.specs.List.{fold, flat_map, range_with_len}
-use Rattle.std.specs.declared.option.Option.{Option}
+use Rattle.std.proofs.Common.{◌≡◌, ◌∙◌, sym, ap, refl, subst, ℕ, zero, suc, ◌+◌, ◌<◌, List, [], ◌∷◌, ◌++◌, length, map, take, arith, slice_index_or}
+use Rattle.std.specs.List.{All, fold, flat_map, range_with_len}
 use Rattle.std.proofs.lemmas.List.Sums.{fold-append}
 use Rattle.std.proofs.lemmas.Grind.{flat_map-append}
-use Rattle.std.proofs.lemmas.List.Elements.{All-nil, All-cons, All-append}
+use Rattle.std.proofs.lemmas.List.Elements.{All-head, All-tail}
 use Rattle.std.proofs.lemmas.List.{take_more, map-append, append-nil}
-use Rattle.serial_sum.specs.Columns.{columns_at}
-use Rattle.serial_sum.specs.Rows.{FitsRows, IsFor, one, with_row, is_added, row_at, least_after}
+use Rattle.serial_sum.specs.Adders.{StayOut}
 use Rattle.serial_sum.specs.declared.part.Contribution.{Contribution}
-use Rattle.serial_sum.proofs.RowLaws.{rows_fit}
-use Rattle.sparsity.specs.declared.rows.Row.{Row}
-use Rattle.block_sums.specs.declared.system.System.{System}
-use Rattle.block_sums.specs.Adding.{run_of, after, Adds}
+use Rattle.block_sums.specs.Adding.{Adds}
 
-pub put_adds : (system : System) (rows now : List Row) (least lower : Option ℕ) (added : Bool) (given : Contribution) → FitsRows system.pattern.now rows → IsFor system.pattern.now given →
-    now ≡ with_row system.digits system.pattern.now rows given → added ≡ is_added system.digits (columns_at system.pattern.now given.row) (row_at rows given.row) given.target given.value →
-    lower ≡ least_after added least given.row → Adds system rows least now lower (given ∷ [])
-unfolding after
-put_adds system rows now least lower added given fits for_it rows_are added_is lower_is = record {
-  run = ap (λ l. run_of now l) (lower_is ∙ ap (λ b. least_after b least given.row) added_is)
-      ∙ ap (λ r. run_of r (least_after (is_added system.digits (columns_at system.pattern.now given.row) (row_at rows given.row) given.target given.value) least given.row)) rows_are;
-  fits = rw rows_are (rows_fit system.digits system.pattern.now rows given fits for_it);
-  allowed = All-cons (IsFor system.pattern.now) given [] for_it (All-nil (IsFor system.pattern.now));
-}
+pub none_adds : {S T : Type 0} {Fits : S → Type 0} {step : S × T → Contribution → S × T} {s : S × T} → Fits s.0 → Adds Fits step s s []
+none_adds fits = record { run = refl; fits = fits }
 
-pub none_adds : (system : System) (rows : List Row) (least : Option ℕ) → FitsRows system.pattern.now rows → Adds system rows least rows least []
-unfolding after
-none_adds system rows least fits = record { run = refl; fits = fits; allowed = All-nil (IsFor system.pattern.now) }
+pub one_adds : {S T : Type 0} {Fits : S → Type 0} {step : S × T → Contribution → S × T} {s n : S × T} {c : Contribution} → n ≡ step s c → Fits n.0 → Adds Fits step s n (c ∷ [])
+one_adds is fits = record { run = is; fits = fits }
 
-pub both_add : (system : System) (rows middle now : List Row) (least between lower : Option ℕ) (xs ys : List Contribution) → Adds system rows least middle between xs →
-    Adds system middle between now lower ys → Adds system rows least now lower (xs ++ ys)
-unfolding after
-both_add system rows middle now least between lower xs ys a b = record {
-  run = b.run ∙ ap (λ r. fold (one system.digits system.pattern.now) r ys) a.run ∙ sym (fold-append (one system.digits system.pattern.now) (run_of rows least) xs ys);
+pub same_adds : {S T : Type 0} {Fits : S → Type 0} {step : S × T → Contribution → S × T} {s n : S × T} {xs ys : List Contribution} → xs ≡ ys → Adds Fits step s n xs → Adds Fits step s n ys
+same_adds {S} {T} {Fits} {step} {s} {n} e a = let P : List Contribution → Type 0 = λ list. Adds Fits step s n list in subst P e a
+
+pub same_single : {S T : Type 0} {Fits : S → Type 0} {step : S × T → Contribution → S × T} {s n : S × T} {x y : Contribution} → x ≡ y → Adds Fits step s n (x ∷ []) → Adds Fits step s n (y ∷ [])
+same_single e a = same_adds (ap (λ c. c ∷ []) e) a
+
+pub both_add : {S T : Type 0} {Fits : S → Type 0} {step : S × T → Contribution → S × T} {s m n : S × T} {xs ys : List Contribution} → Adds Fits step s m xs → Adds Fits step m n ys → Adds Fits step s n (xs ++ ys)
+both_add {S} {T} {Fits} {step} {s} {m} {n} {xs} {ys} a b = record {
+  run = b.run ∙ ap (λ (r : S × T). fold step r ys) a.run ∙ sym (fold-append step s xs ys);
   fits = b.fits;
-  allowed = All-append (IsFor system.pattern.now) xs ys a.allowed b.allowed;
 }
 
-pub same_adds : (system : System) (rows now : List Row) (least lower : Option ℕ) (xs ys : List Contribution) → xs ≡ ys → Adds system rows least now lower xs → Adds system rows least now lower ys
-same_adds system rows now least lower xs ys e a = rw (← e) a
+-- contributions to a row that isn't wanted
+pub none_wanted : {S T : Type 0} {Fits : S → Type 0} {step : S × T → Contribution → S × T} {s : S × T} (row : ℕ) (list : List Contribution) → StayOut step row → All (λ (c : Contribution). c.row ≡ row) list → Fits s.0 → Adds Fits step s s list
+none_wanted {S} {T} {Fits} {step} {s} row list out rows fits = record { run = sym (stays list rows); fits = fits }
+  where
+    stays : (list : List Contribution) → All (λ (c : Contribution). c.row ≡ row) list → fold step s list ≡ s
+    stays [] rows = refl
+    stays (c ∷ list) rows =
+        ap (λ (r : S × T). fold step r list) (out s c (All-head (λ (x : Contribution). x.row ≡ row) c list rows))
+        ∙ stays list (All-tail (λ (x : Contribution). x.row ≡ row) c list rows)
 
-pub map_more : {A : Type 0} (f : A → Contribution) (xs : List A) (k : ℕ) (d : A) → k < length xs → map f (take (k + 1) xs) ≡ map f (take k xs) ++ f (slice_index_or xs k d) ∷ []
+map_more : {A : Type 0} (f : A → Contribution) (xs : List A) (k : ℕ) (d : A) → k < length xs → map f (take (k + 1) xs) ≡ map f (take k xs) ++ f (slice_index_or xs k d) ∷ []
 map_more f xs k d h = ap (map f) (take_more xs k d h) ∙ map-append f (take k xs) (slice_index_or xs k d ∷ [])
 
-pub flat_more : {A : Type 0} (f : A → List Contribution) (xs : List A) (k : ℕ) (d : A) → k < length xs → flat_map f (take (k + 1) xs) ≡ flat_map f (take k xs) ++ f (slice_index_or xs k d)
+flat_more : {A : Type 0} (f : A → List Contribution) (xs : List A) (k : ℕ) (d : A) → k < length xs → flat_map f (take (k + 1) xs) ≡ flat_map f (take k xs) ++ f (slice_index_or xs k d)
 flat_more f xs k d h =
     ap (flat_map f) (take_more xs k d h) ∙ flat_map-append f (take k xs) (slice_index_or xs k d ∷ []) ∙ ap (λ ys. flat_map f (take k xs) ++ ys) (append-nil (f (slice_index_or xs k d)))
 
@@ -61,26 +57,17 @@ range_more f k =
     ap (flat_map f) (range_next 0 k) ∙ flat_map-append f (range_with_len 0 k) ((0 + k) ∷ []) ∙ ap (λ ys. flat_map f (range_with_len 0 k) ++ ys) (append-nil (f (0 + k)))
     ∙ ap (λ n. flat_map f (range_with_len 0 k) ++ f n) (let e : 0 + k ≡ k = omega arith in e)
 
-pub one_adds : (system : System) (rows now : List Row) (least lower : Option ℕ) (x y : Contribution) → x ≡ y → Adds system rows least now lower (x ∷ []) → Adds system rows least now lower (y ∷ [])
-one_adds system rows now least lower x y e a = same_adds system rows now least lower (x ∷ []) (y ∷ []) (ap (λ z. z ∷ []) e) a
-
 -- one more of the terms
-pub terms_step : {A : Type 0} (system : System) (rows middle now : List Row) (least between lower : Option ℕ) (f : A → Contribution) (xs : List A) (k : ℕ) (x : A) → k < length xs → x ≡ slice_index_or xs k x →
-    Adds system rows least middle between (map f (take k xs)) → Adds system middle between now lower (f x ∷ []) → Adds system rows least now lower (map f (take (k + 1) xs))
-terms_step system rows middle now least between lower f xs k x h e a b =
-    same_adds system rows now least lower (map f (take k xs) ++ f x ∷ []) (map f (take (k + 1) xs)) (ap (λ y. map f (take k xs) ++ f y ∷ []) e ∙ sym (map_more f xs k x h))
-    (both_add system rows middle now least between lower (map f (take k xs)) (f x ∷ []) a b)
+pub terms_step : {S T A : Type 0} {Fits : S → Type 0} {step : S × T → Contribution → S × T} {s m n : S × T} (f : A → Contribution) (xs : List A) (k : ℕ) (x : A) → k < length xs → x ≡ slice_index_or xs k x →
+    Adds Fits step s m (map f (take k xs)) → Adds Fits step m n (f x ∷ []) → Adds Fits step s n (map f (take (k + 1) xs))
+terms_step f xs k x h e a b = same_adds (ap (λ y. map f (take k xs) ++ f y ∷ []) e ∙ sym (map_more f xs k x h)) (both_add a b)
 
 -- one more list
-pub lists_step : {A : Type 0} (system : System) (rows middle now : List Row) (least between lower : Option ℕ) (f : A → List Contribution) (xs : List A) (k : ℕ) (x : A) → k < length xs → x ≡ slice_index_or xs k x →
-    Adds system rows least middle between (flat_map f (take k xs)) → Adds system middle between now lower (f x) → Adds system rows least now lower (flat_map f (take (k + 1) xs))
-lists_step system rows middle now least between lower f xs k x h e a b =
-    same_adds system rows now least lower (flat_map f (take k xs) ++ f x) (flat_map f (take (k + 1) xs)) (ap (λ y. flat_map f (take k xs) ++ f y) e ∙ sym (flat_more f xs k x h))
-    (both_add system rows middle now least between lower (flat_map f (take k xs)) (f x) a b)
+pub lists_step : {S T A : Type 0} {Fits : S → Type 0} {step : S × T → Contribution → S × T} {s m n : S × T} (f : A → List Contribution) (xs : List A) (k : ℕ) (x : A) → k < length xs → x ≡ slice_index_or xs k x →
+    Adds Fits step s m (flat_map f (take k xs)) → Adds Fits step m n (f x) → Adds Fits step s n (flat_map f (take (k + 1) xs))
+lists_step f xs k x h e a b = same_adds (ap (λ y. flat_map f (take k xs) ++ f y) e ∙ sym (flat_more f xs k x h)) (both_add a b)
 
 -- one more number
-pub range_step : (system : System) (rows middle now : List Row) (least between lower : Option ℕ) (f : ℕ → List Contribution) (k : ℕ) →
-    Adds system rows least middle between (flat_map f (range_with_len 0 k)) → Adds system middle between now lower (f k) → Adds system rows least now lower (flat_map f (range_with_len 0 (k + 1)))
-range_step system rows middle now least between lower f k a b =
-    same_adds system rows now least lower (flat_map f (range_with_len 0 k) ++ f k) (flat_map f (range_with_len 0 (k + 1))) (sym (range_more f k))
-    (both_add system rows middle now least between lower (flat_map f (range_with_len 0 k)) (f k) a b)
+pub range_step : {S T : Type 0} {Fits : S → Type 0} {step : S × T → Contribution → S × T} {s m n : S × T} (f : ℕ → List Contribution) (k : ℕ) →
+    Adds Fits step s m (flat_map f (range_with_len 0 k)) → Adds Fits step m n (f k) → Adds Fits step s n (flat_map f (range_with_len 0 (k + 1)))
+range_step f k a b = same_adds (sym (range_more f k)) (both_add a b)

@@ -12,8 +12,7 @@ use Rattle.fem_fixed.proofs.Unique.{nearest_is_near}
 use Rattle.affine_constraints.specs.Lines.{AffineLine, Lines}
 use Rattle.block_sums.specs.Masters.{masters, masters_by, constant_of, constant_by, itself}
 use Rattle.block_sums.specs.Shares.{load_share, entry_share, constant_share}
-use Rattle.block_sums.specs.Adding.{IsWeight}
-use Rattle.block_sums.specs.SmallLines.{IsSmallLine, AreSmallLines}
+use Rattle.block_sums.specs.SmallLines.{IsWeight, IsSmallLine, AreSmallLines}
 
 above_zero : (d : ℕ) → 0 < d → pos 0 <ℤ pos d
 above_zero d h = grind (arith, ints)

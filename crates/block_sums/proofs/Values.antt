@@ -1,19 +1,18 @@
--- Numbers of the code that fit their types, and what couples with what.
-use Rattle.std.proofs.Common.{◌≡◌, ◌∙◌, sym, ap, refl, subst, ℕ, zero, suc, ◌<◌, ◌≤◌, ◌^◌, ℤ, pos, negsuc, of_z, Bool, false, cond, List, [], ◌∷◌, ◌++◌, length, map, FitsSigned, w64, lit<, arith, Some, None, slice_index, slice_index_or}
+-- Numbers of the code that fit their types, and contributions by the cases of a line.
+use Rattle.std.proofs.Common.{◌≡◌, ◌∙◌, sym, ap, refl, ℕ, zero, suc, ◌<◌, ◌≤◌, ◌^◌, ℤ, pos, negsuc, of_z, Bool, false, cond, List, [], ◌∷◌, ◌++◌, length, map, FitsSigned, w64, lit<, arith, Some, None, slice_index, slice_index_or}
 use Rattle.std.specs.Prelude.{unsigned_abs}
 use Rattle.std.specs.Int.{w128}
-use Rattle.std.specs.List.{All, flat_map}
+use Rattle.std.specs.List.{flat_map}
 use Rattle.std.proofs.lemmas.Int.{fits_signed_from_abs}
 use Rattle.std.proofs.lemmas.List.{get_or_default, append-nil}
 use Rattle.fem_fixed.proofs.Sizes.{size_fits}
 use Rattle.affine_constraints.specs.declared.term.Term.{Term}
 use Rattle.affine_constraints.specs.Lines.{AffineLine, Lines}
-use Rattle.local_blocks.specs.Blocks.{LocalBlock}
+use Rattle.cell_blocks.specs.LocalBlocks.{LocalBlock}
 use Rattle.serial_sum.specs.declared.part.Target.TheVariants.{Column, RightSide}
-use Rattle.block_sums.specs.Masters.{masters, masters_by, constant_of, itself, Couples, Holds, IsMasterFor}
+use Rattle.block_sums.specs.Masters.{masters, masters_by, constant_of, itself, Holds, IsMasterFor}
 use Rattle.block_sums.specs.Contributions.{to, is_zero, column_terms, constant_terms, master_terms, row_terms, own_terms, dof_at, entry_at}
 use Rattle.block_sums.specs.Shares.{entry_share, constant_share}
-use Rattle.block_sums.specs.Adding.{CouplesAll}
 
 pub fits_weight : (a : ℤ) → unsigned_abs a ≤ 2 ^ 31 → FitsSigned w64 a
 fits_weight a h = fits_signed_from_abs w64 a (omega (arith, h))
@@ -62,14 +61,6 @@ line_row lines block i dof line d e =
     let at : lines (dof_at block i) ≡ Some line = ap lines (sym d) ∙ e in
     rw at (ap (λ n. flat_map (master_terms lines block i) line.terms ++ own_terms n (unsigned_abs (entry_at block i i)) line.constant) d)
 
--- a free column's dof couples with the row
-pub free_couples : (pattern : List (List ℕ)) (lines : Lines) (row dof : ℕ) → lines dof ≡ None → CouplesAll pattern row (masters lines dof) → Couples pattern row dof
-free_couples pattern lines row dof e h =
-    let all : CouplesAll pattern row (itself dof ∷ []) = subst (CouplesAll pattern row) (free_masters lines dof e) h in all 0 (itself dof) (lit< tt)
-
-pub line_couples : (pattern : List (List ℕ)) (lines : Lines) (row dof : ℕ) (line : AffineLine) → lines dof ≡ Some line → CouplesAll pattern row (masters lines dof) → CouplesAll pattern row line.terms
-line_couples pattern lines row dof line e h = subst (CouplesAll pattern row) (line_masters lines dof line e) h
-
 -- a master of one of the dofs
 pub master_for : (pattern : List (List ℕ)) (lines : Lines) (dofs : List ℕ) (i k : ℕ) (d : Term) → Holds pattern lines dofs → i < length dofs → k < length (masters lines (slice_index dofs i)) →
     IsMasterFor pattern lines dofs (slice_index_or (masters lines (slice_index dofs i)) k d)
@@ -77,20 +68,6 @@ master_for pattern lines dofs i k d h a b = record {
   row = (h.masters i 0 a i 0 a k d b k d b).within;
   others = λ j e l. λ q t m. h.masters i 0 a j e l k d b q t m;
 }
-
-pub free_master_for : (pattern : List (List ℕ)) (lines : Lines) (dofs : List ℕ) (i dof : ℕ) → Holds pattern lines dofs → i < length dofs → dof ≡ slice_index dofs i → lines dof ≡ None → IsMasterFor pattern lines dofs (itself dof)
-free_master_for pattern lines dofs i dof h a d e =
-    let are : masters lines (slice_index dofs i) ≡ itself dof ∷ [] = ap (masters lines) (sym d) ∙ free_masters lines dof e in
-    let some : 0 < length (masters lines (slice_index dofs i)) = rw are (lit< tt) in
-    let P : List Term → Type 0 = λ ms. IsMasterFor pattern lines dofs (slice_index_or ms 0 (itself 0)) in
-    subst P are (master_for pattern lines dofs i 0 (itself 0) h a some)
-
-pub line_masters_for : (pattern : List (List ℕ)) (lines : Lines) (dofs : List ℕ) (i dof : ℕ) (line : AffineLine) → Holds pattern lines dofs → i < length dofs → dof ≡ slice_index dofs i → lines dof ≡ Some line →
-    All (IsMasterFor pattern lines dofs) line.terms
-line_masters_for pattern lines dofs i dof line h a d e k t b =
-    let are : masters lines (slice_index dofs i) ≡ line.terms = ap (masters lines) (sym d) ∙ line_masters lines dof line e in
-    let P : List Term → Type 0 = λ ms. IsMasterFor pattern lines dofs (slice_index_or ms k t) in
-    subst P are (master_for pattern lines dofs i k t h a (rw are b))
 
 pub same_term : (terms : List Term) (k : ℕ) (d e : Term) → k < length terms → slice_index_or terms k d ≡ slice_index_or terms k e
 same_term terms k d e h = get_or_default terms k d e h

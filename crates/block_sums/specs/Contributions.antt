@@ -4,7 +4,7 @@ use Rattle.std.specs.declared.option.Option.{Option}
 use Rattle.std.specs.List.{flat_map, range_with_len}
 use Rattle.affine_constraints.specs.declared.term.Term.{Term}
 use Rattle.affine_constraints.specs.Lines.{AffineLine, Lines}
-use Rattle.local_blocks.specs.Blocks.{LocalBlock}
+use Rattle.cell_blocks.specs.LocalBlocks.{LocalBlock}
 use Rattle.serial_sum.specs.declared.part.Target.{Target}
 use Rattle.serial_sum.specs.declared.part.Target.TheVariants.{Column, RightSide}
 use Rattle.serial_sum.specs.declared.part.Contribution.{Contribution}

@@ -1,7 +1,11 @@
 -- Constraint lines within their limits.
 use Rattle.std.specs.Prelude.{ℕ, ◌≤◌, ◌^◌, All, IfSome, unsigned_abs}
+use Rattle.affine_constraints.specs.declared.term.Term.{Term}
 use Rattle.affine_constraints.specs.Lines.{AffineLine, Lines}
-use Rattle.block_sums.specs.Adding.{IsWeight}
+
+-- a weight in ticks is at most 16 in size
+abbrev pub IsWeight : Term → Type 0
+IsWeight term = unsigned_abs term.weight ≤ 2 ^ 20
 
 -- each weight is at most 16 in size, and the constant at most 32768
 pub record IsSmallLine (line : AffineLine) : Type 0 where

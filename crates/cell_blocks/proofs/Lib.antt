@@ -1,2 +1,4 @@
+pub mod Entries
 pub mod Made
-pub mod Kept
+pub mod Placed
+pub mod Filled

@@ -19,7 +19,7 @@ use Rattle.fixed_q1.specs.CellForm.{cell_form}
 use Rattle.fixed_q1.specs.BoundaryForm.{boundary_form, end_numbers}
 use Rattle.fixed_q1.specs.JumpForm.{jump_form}
 use Rattle.fixed_q1.specs.Places.{reference_place}
-use Rattle.local_blocks.specs.Blocks.{LocalBlock}
+use Rattle.cell_blocks.specs.LocalBlocks.{LocalBlock}
 use Rattle.mesh_visits.specs.declared.flags.Flags.{Flags}
 use Rattle.mesh_visits.specs.declared.visit.Visit.{Visit}
 use Rattle.mesh_visits.specs.declared.visit.Visit.TheVariants.{Cell as OnCell, Boundary as OnBoundary, Interior as OnPart}

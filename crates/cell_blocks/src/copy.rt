@@ -1,10 +1,11 @@
-ghost use Rattle.std.specs.Prelude.{◌≡◌, ◌<◌, [], All, length, slice_index_or, Ok, Err, IfOk};
-ghost use Rattle.local_blocks.specs.Blocks.{seen, IsBlock};
-ghost use Rattle.cell_blocks.specs.Visited.{HasRoom, with_block, fault_in, blocks_in};
+ghost use Rattle.std.specs.Prelude.{◌≡◌, ◌<◌, [], All, length, slice_index_or, Ok, IfOk};
+ghost use Rattle.cell_blocks.specs.LocalBlocks.{IsBlock};
+ghost use Rattle.cell_blocks.specs.Visited.{fault_in, blocks_in};
 
+use crate::block::Block;
+use crate::systems::Systems;
 use fem_fixed::NoMemory;
 use fixed_q1::{LocalFault, Q1Scratch};
-use local_blocks::Block;
 use std::alloc::Global;
 use std::marker::Model;
 
@@ -23,30 +24,26 @@ impl CellScratch {
     }
 }
 
-/// The greatest number of visits of a cell: of itself, and of two halves of each of its four faces.
-const MOST_VISITS: usize = 9;
-
 /// The copy object of a cell: the blocks of its visits, or the fault of the first visit that has one. It has
-/// room for every cell.
+/// room for every cell, and the local forms are written where they stay.
 #[derive(Drop)]
 pub struct CellCopy {
-    blocks: Vec<Block>,
-    used: usize,
-    fault: Option<LocalFault>,
+    pub(crate) systems: Systems,
+    pub(crate) fault: Option<LocalFault>,
 }
 
 impl Model for CellCopy {
-    ghost use Rattle.std.specs.Prelude.{◌≡◌, ◌≤◌, List, All, length, take, map};
+    ghost use Rattle.std.specs.Prelude.{List};
     ghost use Rattle.std.specs.declared.result.Result.{Result};
     ghost use Rattle.fixed_q1.specs.declared.fault.LocalFault.{LocalFault};
-    ghost use Rattle.local_blocks.specs.Blocks.{LocalBlock, seen, IsBlock};
-    ghost use Rattle.cell_blocks.specs.Visited.{seen_copy};
+    ghost use Rattle.cell_blocks.specs.LocalBlocks.{LocalBlock};
+    ghost use Rattle.cell_blocks.specs.Stored.{IsStore, seen_copy};
 
     ghost Value = { Result (List LocalBlock) LocalFault };
 
-    ghost view = { λ copy. seen_copy copy.fault copy.used copy.blocks.items };
+    ghost view = { λ copy. seen_copy copy.fault copy.systems };
 
-    ghost invariant = { λ copy. (length copy.blocks.items ≡ 9) × (copy.used ≤ 9) × All IsBlock (map seen (take copy.used copy.blocks.items)) };
+    ghost invariant = { λ copy. IsStore copy.systems };
 }
 
 impl CellCopy {
@@ -54,43 +51,10 @@ impl CellCopy {
     pub fn new(alloc: Global) -> Result<CellCopy, NoMemory>
         ensures { IfOk result (λ copy. copy ≡ Ok []) }
     {
-        let block = Block::Face {
-            dofs: [0; 2],
-            matrix: [[0; 2]; 2],
-            load: [0; 2],
-        };
         Ok(CellCopy {
-            blocks: vec![in alloc; block; MOST_VISITS]?,
-            used: 0,
+            systems: Systems::new(alloc)?,
             fault: None,
         })
-    }
-
-    /// Takes all blocks out.
-    pub(crate) fn clear(&mut self)
-        ensures { self.new ≡ Ok [] }
-    {
-        self.used = 0;
-        self.fault = None;
-    }
-
-    /// Puts a block behind the others.
-    #[inline(always)]
-    pub(crate) fn put(&mut self, block: Block)
-        requires room { HasRoom self.old }
-        requires block { IsBlock (seen block) }
-        ensures { self.new ≡ with_block self.old (seen block) }
-    {
-        self.blocks[self.used] = block;
-        self.used += 1;
-    }
-
-    /// Leaves the fault in place of the blocks.
-    pub(crate) fn fail(&mut self, fault: LocalFault)
-        ensures { self.new ≡ Err fault }
-    {
-        self.used = 0;
-        self.fault = Some(fault);
     }
 
     /// The fault of the first visit that has one, where there is one.
@@ -108,14 +72,15 @@ impl CellCopy {
         if self.fault.is_some() {
             return 0;
         }
-        self.used as u32
+        self.systems.used as u32
     }
 
     /// A block.
-    pub fn block(&self, k: u32) -> &Block
+    pub fn block(&self, k: u32) -> Block<'_>
         requires { k < length (blocks_in self.now) }
-        ensures { seen result.now ≡ slice_index_or (blocks_in self.now) k (seen result.now) }
+        ensures { result ≡ slice_index_or (blocks_in self.now) k result }
     {
-        &self.blocks[k as usize]
+        let slot = self.systems.slots[k as usize];
+        Block::new(self.systems.lend(slot))
     }
 }

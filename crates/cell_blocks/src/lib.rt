@@ -2,10 +2,15 @@
 //! the boundary and of its parts of interior faces.
 #![tactic(auto)]
 
+mod block;
 mod copy;
 mod fill;
+mod forms;
+mod local;
 mod setting;
+mod systems;
 
+pub use block::Block;
 pub use copy::{CellCopy, CellScratch};
 pub use fill::fill_blocks;
 pub use setting::Setting;

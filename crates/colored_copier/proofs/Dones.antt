@@ -128,11 +128,10 @@ module _ {J R : Type 0} (count : J → ℕ) (rows_of : J → ℕ → List ℕ) (
       (starts key.seats key.items key.rows.value.items (plan_of rows_of key) (finish_of row_step key) (first_view key) refl refl refl p)
 
   -- the fields of a round that was just made
-  pub made_sound : (z : TableId) (made key : Key J R) (job : J) (rows : List (ℕ × R)) (items : ℕ) (places : Places) → z.words ≡ 1 → made ≡ key → key.job.value ≡ job → key.rows.value.items ≡ rows → key.items ≡ count job → items ≡ key.items → key.seats ≤ 64
-      → ArePlaced (rows_of job) (map row_number rows) (count job) places → Suits count rows_of fits job rows → Sound count rows_of fits z made items places
-  made_sound z made key job rows items places words same is-job is-rows is-items is-key few placed s =
-      subst (λ (k : Key J R). Sound count rows_of fits z k items places) (sym same) record {
-        words = words;
+  pub made_sound : (made key : Key J R) (job : J) (rows : List (ℕ × R)) (items : ℕ) (places : Places) → made ≡ key → key.job.value ≡ job → key.rows.value.items ≡ rows → key.items ≡ count job → items ≡ key.items → key.seats ≤ 64
+      → ArePlaced (rows_of job) (map row_number rows) (count job) places → Suits count rows_of fits job rows → Sound count rows_of fits made items places
+  made_sound made key job rows items places same is-job is-rows is-items is-key few placed s =
+      subst (λ (k : Key J R). Sound count rows_of fits k items places) (sym same) record {
         items_is = is-key;
         count_is = is-key ∙ (is-items ∙ ap count (sym is-job));
         few_seats = few;

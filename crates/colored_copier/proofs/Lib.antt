@@ -14,3 +14,4 @@ pub mod Sets
 pub mod Machines
 pub mod PairLaws
 pub mod HandLaws
+pub mod Popped

@@ -9,9 +9,9 @@ use Rattle.atomic_table.specs.Table.{State}
 use Rattle.atomic_table.proofs.Lists.{at_map}
 use Rattle.colored_copier.specs.declared.view.View.{View}
 use Rattle.colored_copier.specs.declared.view.Phase.{Phase}
-use Rattle.colored_copier.specs.declared.view.Phase.TheVariants.{Fresh, Claimed}
+use Rattle.colored_copier.specs.declared.view.Phase.TheVariants.{Claimed}
 use Rattle.colored_copier.specs.Phases.{claims}
-use Rattle.colored_copier.specs.Machine.{Machine, IsExclusive}
+use Rattle.colored_copier.specs.Machine.{IsExclusive}
 use Rattle.colored_copier.specs.Plans.{In}
 use Rattle.colored_copier.specs.Rule.{total, claiming, overs, parts, RoundRule}
 use Rattle.colored_copier.specs.Shown.{phase_of, shown, StartsFresh, StatesAreExclusive, ClaimsAreEvents, SplitsAreEvents, JoinsAreEvents}

@@ -7,8 +7,10 @@ pub mod Keyed
 pub mod Passes
 pub mod Conditions
 pub mod Places
+pub mod Tables
 pub mod Views
 pub mod Answers
 pub mod Ending
 pub mod Fresh
 pub mod Hands
+pub mod Crews

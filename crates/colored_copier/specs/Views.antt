@@ -34,8 +34,7 @@ module _ {J R : Type 0} where
   seats_of round = round.key.seats
 
   -- how a round's fields fit its table
-  pub record Sound (count : J → ℕ) (rows_of : J → ℕ → List ℕ) (fits : J → ℕ → R → Type 0) (z : TableId) (key : Key J R) (items : ℕ) (places : Places) : Type 0 where
-    pub words : z.words ≡ 1
+  pub record Sound (count : J → ℕ) (rows_of : J → ℕ → List ℕ) (fits : J → ℕ → R → Type 0) (key : Key J R) (items : ℕ) (places : Places) : Type 0 where
     pub items_is : items ≡ key.items
     pub count_is : items ≡ count key.job.value
     pub few_seats : key.seats ≤ 64

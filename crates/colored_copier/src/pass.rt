@@ -62,7 +62,7 @@ impl<J: RowJob> RoundPass<J> {
     }
 
     /// True once it found that all items are claimed.
-    pub(crate) fn is_over(&self) -> bool
+    pub fn is_over(&self) -> bool
         ensures { MatchBool result (IsOver self.now.phase) (NotOver self.now.phase) }
     {
         self.over

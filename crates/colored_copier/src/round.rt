@@ -3,43 +3,32 @@ ghost use Rattle.std.specs.Prelude.{◌≡◌, ◌<◌, ◌≤◌, ◌+◌, ◌^
 ghost use Rattle.std.specs.Vec.{vec_capacity};
 ghost use mathlib.Core.Option.{some};
 ghost use lib.ListN.{get_elem?};
-ghost use Rattle.atomic_table.specs.Table.{rest};
 ghost use Rattle.colored_copier.specs.Plans.{In, row_number};
-ghost use Rattle.colored_copier.specs.Places.{ArePlaced, Next};
+ghost use Rattle.colored_copier.specs.Places.{ArePlaced};
 ghost use Rattle.colored_copier.specs.Rule.{steps, view};
 ghost use Rattle.colored_copier.specs.Keyed.{plan_of, finish_of};
 ghost use Rattle.colored_copier.specs.Conditions.{Suits};
 ghost use Rattle.colored_copier.specs.Fresh.{fresh_passes};
+ghost use Rattle.colored_copier.specs.Tables.{table_of, key_of};
 ghost use Rattle.colored_copier.specs.Views.{seen_round};
 ghost use Rattle.colored_copier.specs.declared.view.Phase.TheVariants as phase;
 
 use crate::job::RowJob;
-use crate::moves::take_all;
 use crate::pass::RoundPass;
 use crate::places::Places;
-use crate::rule::{Key, Rounds};
-use crate::steps::{RowSeat, RowTable, claim_number, deal_pass, join_pass};
+use crate::rule::Key;
+use crate::steps::{RoundTable, RowSeat};
 use crate::turn::{RowTurn, RowWorked};
-use crate::view::View;
-use atomic_table::{Refused, Table};
 use fem_fixed::NoMemory;
 use scratch_pool::Parked;
 use std::alloc::Global;
 use std::marker::Model;
 use std::snapshot::Snapshot;
 
-type OwnedTable<J> = Table<
-    (u32, <J as RowJob>::Row),
-    View<Key<J, <J as RowJob>::Row>>,
-    Key<J, <J as RowJob>::Row>,
-    Rounds<J>,
-    Global,
->;
-
 /// Rows that are numbered and rise, and a job whose items each name some of them, no two the same. The items are claimed
 /// by passes, by one step each, and each item's rows are written in place by the pass that claimed it.
 pub struct Round<J: RowJob> {
-    table: OwnedTable<J>,
+    table: RoundTable<J>,
     items: u64,
     places: Places,
     // An empty vector with room for all rows, for `close`.
@@ -49,14 +38,15 @@ pub struct Round<J: RowJob> {
 impl<J: RowJob> Model for Round<J> {
     ghost use Rattle.std.specs.Prelude.{◌≡◌, ◌≤◌, vec_len};
     ghost use Rattle.std.specs.Vec.{vec_capacity};
+    ghost use Rattle.colored_copier.specs.Tables.{table_of, key_of};
     ghost use Rattle.colored_copier.specs.Views.{RoundView, seen_round, Sound};
     ghost use Rattle.colored_copier.specs.declared.rule.Key.{Key};
 
     ghost Value = { RoundView (Key J J.Row) };
 
-    ghost view = { λ r. seen_round r.table.shared.table_id r.table.shared.key };
+    ghost view = { λ r. seen_round (table_of r.table) (key_of r.table) };
 
-    ghost invariant = { λ r. Sound J.count J.rows_of J.fits r.table.shared.table_id r.table.shared.key r.items r.places × (vec_len r.home ≡ 0) × (r.table.shared.table_id.slots ≤ vec_capacity r.home) };
+    ghost invariant = { λ r. Sound J.count J.rows_of J.fits (key_of r.table) r.items r.places × (vec_len r.home ≡ 0) × ((table_of r.table).slots ≤ vec_capacity r.home) };
 }
 
 /// What a claim found.
@@ -67,42 +57,20 @@ pub enum Claimed {
     Over(u64),
 }
 
-// Writes the seat's first row, and brings the next one forward.
-fn write_row<J: RowJob>(
-    table: &RowTable<J>,
-    place: usize,
-    seat: &mut RowSeat<J>,
-    job: &J,
-    item: u64,
-    row: u32,
-    copy: &J::Copy,
-)
-    requires table { Suits J.count J.rows_of J.fits table.now.key.job.value table.now.key.rows.value.items }
-    requires place { get_elem? (map row_number table.now.key.rows.value.items) place ≡ some row }
-    requires seat { (seat.old.table_id ≡ table.now.table_id) × Next table.now.key.rows.value.items row seat.old.me.1 }
-    requires job { (job.now ≡ table.now.key.job.value) × (item < J.count job.now) × In row (J.rows_of job.now item) × J.stands job.now item copy.now }
-    ensures same { seat.new.table_id ≡ seat.old.table_id }
-    ensures me { (p : ℕ) (x : J.Row) → seat.old.me.1 ≡ (p, (row, x)) ∷ rest seat.old.me.1 → seat.new.me ≡ (seat.old.me.0, rest seat.old.me.1 ++ (p, (row, J.row_step job.now x item row)) ∷ []) }
-{
-    let slot = seat.slot_mut(table, place);
-    job.copy_row(item, row, copy, &mut slot.1);
-    seat.turn();
-}
-
 // The place of the item's i-th row.
 fn row_place<J: RowJob>(
-    table: &RowTable<J>,
+    table: &RoundTable<J>,
     places: &Places,
     job: &J,
     item: u64,
     i: usize,
     row: u32,
 ) -> usize
-    requires places { ArePlaced (J.rows_of job.now) (map row_number table.now.key.rows.value.items) (J.count job.now) places.now }
+    requires places { ArePlaced (J.rows_of job.now) (map row_number (key_of table.now).rows.value.items) (J.count job.now) places.now }
     requires item { item < J.count job.now }
     requires row { get_elem? (J.rows_of job.now item) i ≡ some row }
-    requires among { In row (map row_number table.now.key.rows.value.items) }
-    ensures { get_elem? (map row_number table.now.key.rows.value.items) result ≡ some row }
+    requires among { In row (map row_number (key_of table.now).rows.value.items) }
+    ensures { get_elem? (map row_number (key_of table.now).rows.value.items) result ≡ some row }
 {
     match places {
         Places::Counted => row as usize,
@@ -112,41 +80,40 @@ fn row_place<J: RowJob>(
 
 // Writes all rows of the item that the seat has.
 fn write_all<J: RowJob>(
-    table: &RowTable<J>,
+    table: &RoundTable<J>,
     places: &Places,
     seat: &mut RowSeat<J>,
     job: &J,
     item: u64,
     copy: &J::Copy,
 )
-    requires table { Suits J.count J.rows_of J.fits table.now.key.job.value table.now.key.rows.value.items }
-    requires places { ArePlaced (J.rows_of job.now) (map row_number table.now.key.rows.value.items) (J.count job.now) places.now }
-    requires seat { (seat.old.table_id ≡ table.now.table_id) × (seat.old.me.1 ≡ plan_of J.rows_of table.now.key item) }
-    requires job { (job.now ≡ table.now.key.job.value) × (item < J.count job.now) × J.stands job.now item copy.now }
+    requires table { Suits J.count J.rows_of J.fits (key_of table.now).job.value (key_of table.now).rows.value.items }
+    requires places { ArePlaced (J.rows_of job.now) (map row_number (key_of table.now).rows.value.items) (J.count job.now) places.now }
+    requires seat { (seat.old.table_id ≡ table_of table.now) × (seat.old.me.1 ≡ plan_of J.rows_of (key_of table.now) item) }
+    requires job { (job.now ≡ (key_of table.now).job.value) × (item < J.count job.now) × J.stands job.now item copy.now }
     ensures same { seat.new.table_id ≡ seat.old.table_id }
-    ensures me { seat.new.me ≡ (seat.old.me.0, steps (plan_of J.rows_of table.now.key) (finish_of J.row_step table.now.key) item) }
+    ensures me { seat.new.me ≡ (seat.old.me.0, steps (plan_of J.rows_of (key_of table.now)) (finish_of J.row_step (key_of table.now)) item) }
 {
     let rows = job.rows(item);
     for i in 0..rows.len() {
         let place = row_place(table, places, job, item, i, rows[i]);
-        write_row(table, place, seat, job, item, rows[i], copy);
+        table.write_row(place, seat, job, item, rows[i], copy);
     }
 }
 
 // Deals all passes, in the order of their numbers.
 fn deal<J: RowJob>(
-    table: &RowTable<J>,
+    table: &RoundTable<J>,
     seats: u32,
     mut dealer: RowSeat<J>,
     passes: &mut Vec<RoundPass<J>>,
 )
-    requires table { table.now.table_id.words ≡ 1 }
-    requires dealer { (dealer.table_id ≡ table.now.table_id) × (dealer.me ≡ (view seats 0 0 phase.Fresh (Some table.now.key), [])) }
+    requires dealer { (dealer.table_id ≡ table_of table.now) × (dealer.me ≡ (view seats 0 0 phase.Fresh (Some (key_of table.now)), [])) }
     requires room { (passes.old.items ≡ []) × (seats ≤ vec_capacity passes.old) }
-    ensures { passes.new.items ≡ fresh_passes (seen_round table.now.table_id table.now.key) seats }
+    ensures { passes.new.items ≡ fresh_passes (seen_round (table_of table.now) (key_of table.now)) seats }
 {
     for number in 0..seats {
-        let next = deal_pass(table, &mut dealer);
+        let next = table.deal_pass(&mut dealer);
         passes.push_reserved(RoundPass::of(next));
     }
 }
@@ -199,6 +166,7 @@ impl<J: RowJob> Round<J> {
     ghost use Rattle.colored_copier.specs.Ending.{AreDone};
     ghost use Rattle.colored_copier.specs.Fresh.{fresh_passes};
     ghost use Rattle.colored_copier.specs.Passes.{IsSame};
+    ghost use Rattle.colored_copier.specs.Tables.{table_of, key_of};
     ghost use Rattle.colored_copier.specs.Phases.{IsOver, NotOver};
     ghost use Rattle.colored_copier.specs.Views.{IsPassOf, job_of, rows_at_first, seats_of, seen_round, Sound};
     ghost use Rattle.std.specs.Vec.{vec_capacity};
@@ -206,14 +174,14 @@ impl<J: RowJob> Round<J> {
 
     // The round of a table that was just made.
     fn of(
-        table: OwnedTable<J>,
+        table: RoundTable<J>,
         items: u64,
         places: Places,
         home: Parked<Vec<(u32, J::Row)>>,
     ) -> Round<J>
-        requires sound { Sound J.count J.rows_of J.fits table.shared.table_id table.shared.key items places }
-        requires home { (vec_len home ≡ 0) × (table.shared.table_id.slots ≤ vec_capacity home) }
-        ensures { result ≡ seen_round table.shared.table_id table.shared.key }
+        requires sound { Sound J.count J.rows_of J.fits (key_of table) items places }
+        requires home { (vec_len home ≡ 0) × ((table_of table).slots ≤ vec_capacity home) }
+        ensures { result ≡ seen_round (table_of table) (key_of table) }
     {
         Round {
             table,
@@ -247,21 +215,22 @@ impl<J: RowJob> Round<J> {
         else {
             return Err((rows, NoMemory));
         };
+        let items = job.items();
         let key = Key {
             job: Snapshot::of(job),
             rows: Snapshot::of(&rows),
-            items: job.items(),
+            items,
             seats: seats as u64,
         };
-        match Table::new(alloc, &[0], rows, &key) {
+        match RoundTable::new(alloc, rows, key) {
             Ok((table, dealer)) => {
-                deal(&table.shared, seats, dealer, &mut passes);
-                Ok((Round::of(table, key.items, places, home), passes))
+                deal(&table, seats, dealer, &mut passes);
+                Ok((Round::of(table, items, places, home), passes))
             }
-            Err(Refused { slots }) => {
+            Err(rows) => {
                 passes.destroy_empty();
                 home.take().destroy_empty();
-                Err((slots, NoMemory))
+                Err((rows, NoMemory))
             }
         }
     }
@@ -276,7 +245,7 @@ impl<J: RowJob> Round<J> {
         // What `new` was told of the job.
         ensures few { J.count (job_of self.now) ≤ 2 ^ 32 }
     {
-        let number = claim_number(&self.table.shared, &mut pass.seat);
+        let number = self.table.claim_number(&mut pass.seat);
         if number < self.items {
             pass.written = false;
             pass.over = false;
@@ -297,14 +266,7 @@ impl<J: RowJob> Round<J> {
     {
         let item = worked.item();
         worked.spend();
-        write_all(
-            &self.table.shared,
-            &self.places,
-            &mut pass.seat,
-            job,
-            item,
-            copy,
-        );
+        write_all(&self.table, &self.places, &mut pass.seat, job, item, copy);
         pass.written = true;
     }
 
@@ -328,9 +290,9 @@ impl<J: RowJob> Round<J> {
         };
         let mut seat = first.into_seat();
         while let Some(pass) = passes.pop() {
-            join_pass(&table.shared, &mut seat, pass.into_seat());
+            table.join_pass(&mut seat, pass.into_seat());
         }
         passes.destroy_empty();
-        take_all(table.close_with(seat), home.take())
+        table.end(seat, home.take())
     }
 }

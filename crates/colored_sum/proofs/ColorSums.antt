@@ -13,7 +13,7 @@ use Rattle.serial_sum.specs.Rows.{row_at, AreUnmarked}
 use Rattle.serial_sum.specs.SerialSum.{SumIs}
 use Rattle.serial_sum.specs.Steps.{step_of, zero_state, result_of, answer_of, failure_fault, FaultIs, IsPartFor}
 use Rattle.serial_sum.specs.Marks.{RoundItem, Tells, round_end, RoundIs}
-use Rattle.serial_sum.specs.declared.part.CellPart.{CellPart}
+use Rattle.serial_sum.specs.Parts.{CellPart}
 use Rattle.serial_sum.specs.declared.sum.Failure.{Failure}
 use Rattle.serial_sum.specs.declared.sum.MatrixState.{MatrixState}
 use Rattle.serial_sum.proofs.StateLaws.{steps_give, fault_says, failure_stays}

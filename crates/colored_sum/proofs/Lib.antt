@@ -1,7 +1,6 @@
 pub mod RowSteps
 pub mod Members
 pub mod RoundRows
-pub mod Popped
 pub mod ColorItems
 pub mod ColorSums
 pub mod ColorRounds

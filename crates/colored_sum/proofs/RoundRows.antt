@@ -14,11 +14,11 @@ use Rattle.sparsity.specs.declared.rows.Row.{Row}
 use Rattle.serial_sum.specs.Columns.{columns_at}
 use Rattle.serial_sum.specs.Rows.{row_at, no_row, FitsRow, FitsRows}
 use Rattle.serial_sum.specs.Marks.{RoundItem, item_at, AreItems, IsRound, row_after}
-use Rattle.serial_sum.specs.declared.part.CellPart.{CellPart}
+use Rattle.serial_sum.specs.Parts.{CellPart}
 use Rattle.mesh_loop.specs.Setup.{MeshProblem, pattern_of, written_rows}
 use Rattle.mesh_loop.specs.Sum.{parts_of}
 use Rattle.serial_sum.specs.SerialSum.{part_at}
-use Rattle.colored_sum.specs.RowFits.{part_fits}
+use Rattle.serial_sum.proofs.Fitting.{part_fits}
 use Rattle.mesh_loop.proofs.Kept.{written_rise}
 use Rattle.colored_sum.specs.Rounds.{item_of, items_of, rows_at, row_with}
 use Rattle.colored_sum.proofs.Members.{within, there, read, mapped, in_has, has_in, not_in, rises, rises_pairs, range_pairs, in_range}
@@ -187,10 +187,3 @@ module _ {J : Type 0} (count : J → ℕ) (rows_of : J → ℕ → List ℕ) (ro
 
   pub added : IsAdded digits s cells (rows_in old) new
   added = record { numbers = numbers_kept; round = is_round; fits = still_fit }
-
--- what a round did, of equal jobs and rows
-pub moved : {J : Type 0} (count : J → ℕ) (rows_of : J → ℕ → List ℕ) (row_step : J → Row → ℕ → ℕ → Row) (a b : J) (first old new : List (ℕ × Row)) → a ≡ b → first ≡ old → Worked count rows_of row_step a first new → Worked count rows_of row_step b old new
-moved {J} count rows_of row_step a b first old new e f worked =
-    let P : J → Type 0 = λ j. Worked count rows_of row_step j first new in
-    let Q : List (ℕ × Row) → Type 0 = λ rows. Worked count rows_of row_step b rows new in
-    subst Q f (subst P e worked)

@@ -5,14 +5,14 @@ use Rattle.std.specs.declared.result.Result.{Result}
 use Rattle.affine_constraints.specs.Lines.{AffineLine, lines_in}
 use Rattle.cell_blocks.specs.Blocks.{cell_blocks}
 use Rattle.cell_blocks.specs.Visited.{blocks_in}
-use Rattle.cell_sums.specs.Parts.{part_of_blocks, HoldsAll}
+use Rattle.block_sums.specs.Parts.{part_of_blocks, HoldsAll}
 use Rattle.fixed_q1.specs.declared.fault.LocalFault.{LocalFault}
-use Rattle.local_blocks.specs.Blocks.{LocalBlock}
+use Rattle.cell_blocks.specs.LocalBlocks.{LocalBlock}
 use Rattle.serial_sum.specs.Columns.{columns_at}
 use Rattle.serial_sum.specs.Rows.{FitsRow}
 use Rattle.serial_sum.specs.Marks.{row_after}
 use Rattle.serial_sum.specs.SerialSum.{part_at}
-use Rattle.serial_sum.specs.declared.part.CellPart.{CellPart}
+use Rattle.serial_sum.specs.Parts.{CellPart}
 use Rattle.sparsity.specs.declared.rows.Row.{Row}
 use Rattle.mesh_loop.specs.Setup.{MeshProblem, pattern_of}
 use Rattle.mesh_loop.specs.Sum.{part_of, parts_of, IsWritten}

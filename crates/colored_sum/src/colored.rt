@@ -1,5 +1,5 @@
 //! The serial sum in the order of the colours.
-ghost use Rattle.std.specs.Prelude.{◌≡◌, ◌+◌, ◌<◌, ◌≤◌, ◌^◌, IfOk, IfErr, OnOk, Ok, Some, map, length, slice_index};
+ghost use Rattle.std.specs.Prelude.{◌≡◌, ◌+◌, ◌<◌, ◌≤◌, ◌^◌, IfOk, IfErr, Ok, Some, map, length, slice_index};
 ghost use Rattle.conflict_coloring.specs.Coloring.{IsColoring, AreStarts, color_count};
 ghost use Rattle.conflict_coloring.specs.Colours.{coloured};
 ghost use Rattle.conflict_coloring.specs.Cut.{part};
@@ -10,16 +10,15 @@ ghost use Rattle.serial_sum.specs.Steps.{FaultIs};
 ghost use Rattle.mesh_loop.specs.Plans.{IsWithinRanges};
 ghost use Rattle.mesh_loop.specs.Setup.{cells_of, pattern_of, written_rows};
 ghost use Rattle.mesh_loop.specs.Sum.{parts_of};
-ghost use Rattle.colored_sum.specs.Crews.{IsAtHome};
 ghost use Rattle.colored_sum.specs.Rounds.{items_of};
 
-use crate::crew::{Crew, hand_out, take_back, work};
+use crate::crew::crew_of;
 use crate::heap_rows::HeapRows;
 use crate::row_job::MatrixRowJob;
-use colored_copier::Round;
+use colored_copier::{Crew, run_round};
 use conflict_coloring::Colors;
 use fem_fixed::NoMemory;
-use mesh_loop::{AssembleFault, Plan, Setup};
+use mesh_loop::{AssembleFault, CellCopy, CellScratch, Plan, Setup};
 use scratch_pool::Gate;
 use serial_sum::{Failure, first_failure};
 use sparsity::Rows;
@@ -50,9 +49,8 @@ pub fn assemble_colored<G: Gate + Sync, R: Threads + Sync>(
     ensures fails { IfErr result (FaultIs plan.now.digits (pattern_of setup.now) (parts_of setup.now colors.now.order)) }
 {
     setup.cells_are_written();
-    let zeros = Rows::zero(alloc, setup.pattern())?;
-    let mut rows = HeapRows::of(alloc, zeros)?;
-    let mut crew = Crew::new(alloc, plan)?;
+    let mut rows = HeapRows::zero(alloc, setup.pattern())?;
+    let mut crew = crew_of(alloc, plan)?;
     let starts = colors.starts();
     for color in 0..starts.len() - 1 {
         let job = MatrixRowJob::new(setup, cells_of_color(colors, color), plan.digits);
@@ -97,26 +95,26 @@ fn add_color<G: Gate + Sync, R: Threads + Sync>(
     alloc: Global,
     job: &MatrixRowJob<'_>,
     rows: HeapRows,
-    crew: &mut Crew,
+    crew: &mut Crew<CellScratch, CellCopy>,
     first: u32,
     gate: &G,
 ) -> Result<HeapRows, NoMemory>
-    requires crew { IsAtHome crew.old }
     requires items { AreItems (pattern_of job.now.setup.now) (items_of job.now.setup.now job.now.cells.now) }
     requires few { length job.now.cells.now ≤ 2 ^ 32 }
     requires fits { FitsRows (pattern_of job.now.setup.now) rows }
     ensures round { IfOk result (IsRound job.now.digits (pattern_of job.now.setup.now) (items_of job.now.setup.now job.now.cells.now) rows) }
     ensures fits { IfOk result (FitsRows (pattern_of job.now.setup.now)) }
-    ensures crew { OnOk result (IsAtHome crew.new) }
 {
-    let mut hands = Vec::with_capacity(alloc, crew.workers as usize)?;
-    let Ok((round, mut passes)) = Round::new(alloc, job, rows.into_numbered(), crew.workers) else {
-        hands.destroy_empty();
-        return Err(NoMemory);
-    };
-    hand_out(&round, crew, &mut passes, &mut hands);
-    work(rt, job, &round, &crew.pool, &mut hands, first as u64, gate);
-    take_back(&round, crew, &mut hands, &mut passes);
-    hands.destroy_empty();
-    Ok(HeapRows::from_numbered(round.close(passes)))
+    match run_round(
+        rt,
+        alloc,
+        job,
+        rows.into_numbered(),
+        crew,
+        first as u64,
+        gate,
+    ) {
+        Ok(after) => Ok(HeapRows::from_numbered(after)),
+        Err((_, fault)) => Err(fault),
+    }
 }

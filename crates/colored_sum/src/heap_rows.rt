@@ -1,9 +1,10 @@
 //! Rows on the heap, so that a round moves a pointer for each row and not the row.
-ghost use Rattle.std.specs.Prelude.{◌≡◌, IfOk, reverse, vec_len};
+ghost use Rattle.std.specs.Prelude.{◌≡◌, IfOk, map, reverse, vec_len};
 ghost use Rattle.std.specs.Vec.{vec_capacity};
+ghost use Rattle.sparsity.specs.Rows.{zero_row};
 
 use fem_fixed::NoMemory;
-use sparsity::{Row, Rows};
+use sparsity::{Pattern, Row, RowValues, Rows};
 use std::alloc::Global;
 use std::marker::Model;
 
@@ -82,13 +83,16 @@ impl HeapRows {
     ghost use Rattle.sparsity.specs.Rows.{AreNumbered, rows_in};
     ghost use Rattle.serial_sum.specs.Rows.{AreUnmarked};
 
-    /// Takes memory for each row.
-    pub fn of(alloc: Global, rows: Rows) -> Result<HeapRows, NoMemory>
-        ensures { IfOk result (λ held. held ≡ rows) }
+    /// A row of zeros with no mark for each row of the pattern, each made in its place on the heap.
+    pub fn zero(alloc: Global, pattern: &Pattern) -> Result<HeapRows, NoMemory>
+        ensures { IfOk result (λ held. held ≡ map zero_row pattern.now) }
     {
-        Ok(HeapRows {
-            rows: box_all(alloc, rows.into_numbered())?,
-        })
+        let size = pattern.size();
+        let mut rows = Vec::with_capacity(alloc, size as usize)?;
+        for i in 0..size {
+            rows.push((i, zeros(alloc, pattern.row(i))?))?;
+        }
+        Ok(HeapRows { rows })
     }
 
     /// The rows, off the heap.
@@ -137,15 +141,16 @@ fn flip<X>(values: &mut Vec<X>)
     values.as_mut_slice().reverse();
 }
 
-fn box_all(alloc: Global, mut rows: Vec<(u32, Row)>) -> Result<Vec<(u32, HeapRow)>, NoMemory>
-    ensures { IfOk result (λ held. held.items ≡ rows.items) }
+/// A row of zeros over these columns, on the heap.
+fn zeros(alloc: Global, columns: &[u32]) -> Result<HeapRow, NoMemory>
+    ensures { IfOk result (λ held. held ≡ zero_row columns.now) }
 {
-    let mut held = Vec::with_capacity(alloc, rows.len())?;
-    while let Some((number, row)) = rows.pop() {
-        held.push_reserved((number, HeapRow::new(alloc, row)?));
-    }
-    flip(&mut held);
-    Ok(held)
+    let row = Row {
+        values: RowValues::zero(alloc, columns.len())?,
+        rhs: 0,
+        mark: None,
+    };
+    HeapRow::new(alloc, row)
 }
 
 fn unbox_all(alloc: Global, mut held: Vec<(u32, HeapRow)>) -> Result<Vec<(u32, Row)>, NoMemory>

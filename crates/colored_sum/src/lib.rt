@@ -9,5 +9,6 @@ mod heap_rows;
 mod row_job;
 
 pub use colored::assemble_colored;
+pub use crew::scratches;
 pub use heap_rows::HeapRow;
 pub use row_job::MatrixRowJob;

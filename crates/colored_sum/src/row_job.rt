@@ -2,8 +2,7 @@
 ghost use Rattle.std.specs.Prelude.{◌≡◌, ◌<◌, ◌≤◌, All, length, slice_index};
 
 use crate::heap_rows::HeapRow;
-use block_sums::System;
-use cell_sums::write_row;
+use block_sums::{System, write_row};
 use colored_copier::{RowJob, RowTurn, RowWorked};
 use mesh_loop::{CellCopy, CellScratch, Setup};
 
@@ -43,7 +42,7 @@ impl RowJob for MatrixRowJob<'_> {
     ghost use Rattle.serial_sum.specs.Rows.{FitsRow};
     ghost use Rattle.mesh_loop.specs.Setup.{pattern_of};
     ghost use Rattle.colored_sum.specs.Rounds.{rows_at, row_with};
-    ghost use Rattle.colored_sum.specs.RowFits.{part_fits};
+    ghost use Rattle.serial_sum.proofs.Fitting.{part_fits};
     ghost use Rattle.mesh_loop.specs.Sum.{parts_of};
     ghost use Rattle.serial_sum.specs.SerialSum.{part_at};
 

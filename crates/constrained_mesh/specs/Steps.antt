@@ -1,7 +1,8 @@
 -- Steps of refinement, one after another.
-use Rattle.std.specs.Prelude.{◌≡◌, ℕ, List, [], ◌∷◌, Ok, Err}
+use Rattle.std.specs.Prelude.{◌≡◌, ◌≢◌, ◌<◌, ℕ, List, [], ◌∷◌, length, take, slice_index_or, Ok, Err}
 use Rattle.std.specs.declared.result.Result.{Result}
 use Rattle.hanging_refine.specs.declared.fault.RefineFault.{RefineFault}
+use Rattle.hanging_refine.specs.declared.fault.RefineFault.TheVariants.{NoMemory as Memory}
 use Rattle.hanging_refine.specs.Refined.{RefinedMesh}
 use Rattle.hanging_refine.specs.Refinement.{IsRefinedBy, IsRefusal}
 
@@ -18,3 +19,10 @@ pub data StepThen (old : RefinedMesh) (asked : List ℕ) (rest : RefinedMesh →
 abbrev pub RefinesBy : List (List ℕ) → RefinedMesh → Outcome → Type 0
 RefinesBy [] old outcome = outcome ≡ Ok old
 RefinesBy (asked ∷ steps) old outcome = StepThen old asked (RefinesBy steps) outcome
+
+-- the steps before this one led to the mesh `now`, and this one is refused there, with this fault; memory may run out in
+-- any step
+pub record StopsAt (steps : List (List ℕ)) (old now : RefinedMesh) (fault : RefineFault) (step : ℕ) : Type 0 where
+  pub within : step < length steps
+  pub before : RefinesBy (take step steps) old (Ok now)
+  pub refused : fault ≢ Memory → IsRefusal now (slice_index_or steps step []) fault

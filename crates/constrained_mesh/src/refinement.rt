@@ -1,6 +1,6 @@
-ghost use Rattle.std.specs.Prelude.{◌≢◌, ◌≤◌, ℕ, length, take, Ok, Err, OnOk, IfErr, OnErr};
+ghost use Rattle.std.specs.Prelude.{◌≢◌, ℕ, Ok, Err, OnOk, IfErr};
 ghost use Rattle.hanging_refine.specs.declared.fault.RefineFault.TheVariants.{NoMemory as Memory};
-ghost use Rattle.constrained_mesh.specs.Steps.{RefinesBy};
+ghost use Rattle.constrained_mesh.specs.Steps.{RefinesBy, StopsAt};
 
 use hanging_refine::{Forest, RefineFault};
 use problem_read::Problem;
@@ -9,11 +9,12 @@ use problem_read::Problem;
 ///
 /// # Errors
 ///
-/// The fault of the first step that is refused. The mesh is then as the steps before it left it.
+/// The fault of the first step that is refused: the steps before that one were done, and the mesh is as they
+/// left it.
 pub fn refine_by_steps(forest: &mut Forest, problem: &Problem) -> Result<(), RefineFault>
     ensures ok { OnOk result (RefinesBy problem.now.steps forest.old (Ok forest.new)) }
     ensures fault { IfErr result (λ fault. fault ≢ Memory → RefinesBy problem.now.steps forest.old (Err fault)) }
-    ensures stopped { OnErr result ((count : ℕ) × ((count ≤ length problem.now.steps) × RefinesBy (take count problem.now.steps) forest.old (Ok forest.new))) }
+    ensures stopped { IfErr result (λ fault. (step : ℕ) × StopsAt problem.now.steps forest.old forest.new fault step) }
 {
     for step in 0..problem.steps() {
         match forest.refine(problem.asked(step)) {

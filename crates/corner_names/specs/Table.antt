@@ -1,5 +1,5 @@
 -- Numbers of corner names.
-use Rattle.std.specs.Prelude.{◌≡◌, ℕ, ◌+◌, ◌-◌, ◌<◌, ◌≤◌, cond, nat_lt, ◌==◌, List, [], ◌∷◌, ◌++◌, length, take, fold, slice_index_or, Some}
+use Rattle.std.specs.Prelude.{◌≡◌, ℕ, ◌+◌, ◌-◌, ◌<◌, ◌≤◌, ◌⊎◌, cond, nat_lt, ◌==◌, List, [], ◌∷◌, ◌++◌, length, take, fold, slice_index_or, Some}
 use Rattle.std.specs.declared.option.Option.{Option}
 use Rattle.std.specs.Ordering.{nat_cmp, ordering_then}
 use Rattle.std.specs.BTreeMap.{BTreeMap, get}
@@ -83,3 +83,7 @@ pub record IsMore (old now : List (ℕ × ℕ)) : Type 0 where
   pub more : length old ≤ length now
   pub before : take (length old) now ≡ old
   pub kept : (x : ℕ) → x < first + length old → name_of now x ≡ name_of old x
+
+-- nothing was added, or one name, which has the next number, and that is n
+unfoldable pub AddsAtMostOne : List (ℕ × ℕ) → List (ℕ × ℕ) → ℕ → Type 0
+AddsAtMostOne old now n = (now ≡ old) ⊎ ((length now ≡ length old + 1) × (n ≡ first + length old))

@@ -1,6 +1,6 @@
-ghost use Rattle.std.specs.Prelude.{◌≡◌, ◌≢◌, ◌+◌, ◌<◌, ◌≤◌, ◌^◌, length, take, ◌-◌, None, IfOk, IfErr, [], ◌++◌};
+ghost use Rattle.std.specs.Prelude.{◌≡◌, ◌≢◌, ◌+◌, ◌<◌, ◌≤◌, ◌^◌, length, take, ◌-◌, None, IfOk, OnErr, [], ◌++◌};
 ghost use Rattle.corner_names.specs.Names.{middle_of, centre, root};
-ghost use Rattle.corner_names.specs.Table.{first, number_of, name_of, name_made, centre_below, IsCentre, IsKey, IsTable, IsNumbered, IsMore, AreOneEach};
+ghost use Rattle.corner_names.specs.Table.{first, number_of, name_of, name_made, centre_below, IsCentre, IsKey, IsTable, IsNumbered, IsMore, AddsAtMostOne, AreOneEach};
 
 use fem_fixed::NoMemory;
 use std::alloc::Global;
@@ -59,14 +59,20 @@ impl CornerTable {
         shorten(&mut self.pairs, &mut self.numbers, count);
     }
 
-    /// The number of the middle of two corners.
+    /// The number of the middle of two corners. A name that has no number yet gets the next one.
+    ///
+    /// # Errors
+    ///
+    /// Memory ran out, or 2^31 names have numbers. Nothing is changed then.
     pub fn middle(&mut self, a: u32, b: u32) -> Result<u32, NoMemory>
         requires apart { a ≢ b }
         requires a { a < first + length self.old }
         requires b { b < first + length self.old }
         ensures ok { IfOk result (λ n. IsNumbered self.old self.new (middle_of (name_of self.old a) (name_of self.old b)) n) }
+        ensures next { IfOk result (λ n. AddsAtMostOne self.old self.new n) }
         ensures more { IsMore self.old self.new }
         ensures one { AreOneEach self.new }
+        ensures same { OnErr result (self.new ≡ self.old) }
     {
         if a < b {
             find_or_add(&mut self.pairs, &mut self.numbers, a, b)
@@ -75,24 +81,37 @@ impl CornerTable {
         }
     }
 
-    /// The number of the centre of a coarse cell.
+    /// The number of the centre of a coarse cell. A name that has no number yet gets the next one.
+    ///
+    /// # Errors
+    ///
+    /// As of [`CornerTable::middle`]. Nothing is changed then.
     pub fn coarse_centre(&mut self, cell: u32) -> Result<u32, NoMemory>
         ensures ok { IfOk result (λ n. IsNumbered self.old self.new (centre (root cell)) n) }
+        ensures next { IfOk result (λ n. AddsAtMostOne self.old self.new n) }
         ensures more { IsMore self.old self.new }
         ensures one { AreOneEach self.new }
+        ensures same { OnErr result (self.new ≡ self.old) }
     {
         find_or_add(&mut self.pairs, &mut self.numbers, cell, cell)
     }
 
-    /// The number of the centre of a child, by the number of the centre of the cell above.
+    /// The number of the centre of a child, by the number of the centre of the cell above. A name that has
+    /// no number yet gets the next one.
+    ///
+    /// # Errors
+    ///
+    /// As of [`CornerTable::middle`]. Nothing is changed then.
     pub fn child_centre(&mut self, above: u32, child: u32) -> Result<u32, NoMemory>
         requires above { first ≤ above }
         requires known { above < first + length self.old }
         requires centre { IsCentre (name_of self.old above) }
         requires child { child < 4 }
         ensures ok { IfOk result (λ n. IsNumbered self.old self.new (centre_below (name_of self.old above) child) n) }
+        ensures next { IfOk result (λ n. AddsAtMostOne self.old self.new n) }
         ensures more { IsMore self.old self.new }
         ensures one { AreOneEach self.new }
+        ensures same { OnErr result (self.new ≡ self.old) }
     {
         find_or_add(&mut self.pairs, &mut self.numbers, above, child)
     }
@@ -109,7 +128,9 @@ fn find_or_add(
     requires key { IsKey pairs.old.items (first + length pairs.old.items) (low, high) }
     ensures table { IsTable pairs.new.items numbers.new }
     ensures ok { IfOk result (λ n. IsNumbered pairs.old.items pairs.new.items (name_made pairs.old.items (low, high)) n) }
+    ensures next { IfOk result (λ n. AddsAtMostOne pairs.old.items pairs.new.items n) }
     ensures more { IsMore pairs.old.items pairs.new.items }
+    ensures same { OnErr result (pairs.new.items ≡ pairs.old.items) }
 {
     if let Some(n) = numbers.get(&(low, high)) {
         return Ok(*n);
@@ -129,7 +150,9 @@ fn add(
     requires fresh { number_of numbers.old (low, high) ≡ None }
     ensures table { IsTable pairs.new.items numbers.new }
     ensures ok { IfOk result (λ n. IsNumbered pairs.old.items pairs.new.items (name_made pairs.old.items (low, high)) n) }
+    ensures next { IfOk result (λ n. AddsAtMostOne pairs.old.items pairs.new.items n) }
     ensures more { IsMore pairs.old.items pairs.new.items }
+    ensures same { OnErr result (pairs.new.items ≡ pairs.old.items) }
 {
     let count = pairs.len();
     if count >= ROOM {

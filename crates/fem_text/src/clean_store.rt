@@ -1,4 +1,4 @@
-ghost use Rattle.std.specs.Prelude.{◌≡◌, ◌↔◌, ◌⊎◌, IfOk, OnOk, OnErr, IsErrOf, Some, []};
+ghost use Rattle.std.specs.Prelude.{◌≡◌, ◌↔◌, ◌⊎◌, ◌+◌, ◌≤◌, length, IfOk, OnOk, OnErr, IsErrOf, Some, []};
 ghost use Rattle.std.specs.Option.{option_copied};
 ghost use Rattle.fem_text.specs.Outside.{Reads, Writes, WritesPrefix, IsAbsent, written};
 ghost use Rattle.fem_text.specs.Counts.{one_more, after_call, none_failed};
@@ -64,6 +64,7 @@ impl Store for CleanStore {
 
     fn read(&mut self, alloc: Global, name: &str, limit: u64) -> Result<Vec<u8>, StoreFault>
         ensures bytes { IfOk result (λ bytes. Reads (Some (held_of self.old.texts)) name.now limit bytes.items) }
+        ensures cut { IfOk result (λ bytes. length bytes.items ≤ limit + 1) }
         ensures same { held_of self.new.texts ≡ held_of self.old.texts }
         ensures absent { IsErrOf result StoreFault.Absent ↔ IsAbsent (Some (held_of self.old.texts)) name.now }
         ensures counted { none_failed self.new.calls ≡ after_call (has_failed result) (none_failed self.old.calls) }

@@ -1,4 +1,4 @@
-ghost use Rattle.std.specs.Prelude.{◌≡◌, ◌↔◌, IfOk, OnOk, OnErr, IsErrOf, Some, []};
+ghost use Rattle.std.specs.Prelude.{◌≡◌, ◌↔◌, ◌+◌, ◌≤◌, length, IfOk, OnOk, OnErr, IsErrOf, Some, []};
 ghost use Rattle.std.specs.Option.{option_copied};
 ghost use Rattle.fem_text.specs.Outside.{Reads, IsAbsent, written};
 ghost use Rattle.fem_text.specs.Memory.{held_of, listed};
@@ -46,6 +46,7 @@ pub(crate) fn read_copy(
     limit: u64,
 ) -> Result<Vec<u8>, StoreFault>
     ensures bytes { IfOk result (λ bytes. Reads (Some (held_of (listed texts.now))) name.now limit bytes.items) }
+    ensures cut { IfOk result (λ bytes. length bytes.items ≤ limit + 1) }
     ensures absent { IsErrOf result StoreFault.Absent ↔ IsAbsent (Some (held_of (listed texts.now))) name.now }
     ensures never_fails { IsErrOf result StoreFault.Failed → ⊥ }
 {

@@ -1,4 +1,4 @@
-ghost use Rattle.std.specs.Prelude.{◌≡◌, ◌+◌, ◌≤◌, IfOk, OnOk, OnErr, IsErrOf, vec_len};
+ghost use Rattle.std.specs.Prelude.{◌≡◌, ◌+◌, ◌≤◌, length, IfOk, OnOk, OnErr, IsErrOf, vec_len};
 ghost use Rattle.std.specs.Io.KnownBytes.{Appends, Consumes};
 ghost use Rattle.fem_text.specs.Outside.{GaveUpTo};
 ghost use Rattle.fem_text.specs.Streams.{ConsumesUpTo, AppendsPrefix};
@@ -47,7 +47,7 @@ pub(crate) fn read_up_to<S: Read>(
     ensures bytes { IfOk result (λ bytes. GaveUpTo (S.remaining source.old) limit bytes.items) }
     ensures consumed { IfOk result (λ bytes. Consumes (S.remaining source.old) (S.remaining source.new) bytes.items) }
     ensures most { ConsumesUpTo (S.remaining source.old) (S.remaining source.new) (limit + 1) }
-    ensures cut { IfOk result (λ bytes. vec_len bytes ≤ limit + 1) }
+    ensures cut { IfOk result (λ bytes. length bytes.items ≤ limit + 1) }
     ensures never_absent { IsErrOf result StoreFault.Absent → ⊥ }
 {
     let mut bytes = Vec::new(alloc);

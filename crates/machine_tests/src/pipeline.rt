@@ -3,14 +3,11 @@ ghost use Rattle.std.specs.Prelude.{◌≡◌, ◌<◌, ◌≤◌, ◌+◌, ◌*
 ghost use Rattle.std.specs.Vec.{vec_capacity};
 ghost use Rattle.ordered_pipeline.specs.declared.view.Phase.TheVariants as phase;
 ghost use Rattle.ordered_pipeline.specs.Passes.{IsPassOf, IsSame};
-ghost use Rattle.ordered_pipeline.specs.Hands.{IsReady, IsDone};
-ghost use Rattle.ordered_pipeline.specs.Ending.{AreIdle};
-ghost use Rattle.scratch_pool.specs.Pools as pools;
 
 use ordered_pipeline::{
-    Drawn, Ended, Hand, Handed, Job, Next, Pass, Pipeline, Start, Turn, Worked, run_ordered,
+    Drawn, Ended, Handed, Job, JobData, Next, Pass, Pipeline, Start, Turn, Worked, run_job,
 };
-use scratch_pool::{OpenGate, Pool, PoolPass};
+use scratch_pool::OpenGate;
 use std::alloc::Global;
 use std::process::Abort;
 use std::sync::Wait;
@@ -228,105 +225,42 @@ fn two<T>(values: &mut Vec<T>) -> (T, T)
     (first, second)
 }
 
-// Makes hands of all passes.
-fn pair(
-    pipeline: &Pipeline<Digits>,
-    pool: &Pool<u64>,
-    passes: &mut Vec<Pass<Digits>>,
-    seats: &mut Vec<PoolPass<u64>>,
-    hands: &mut Vec<Hand<Digits>>,
-)
-    requires passes { All (λ p. IsPassOf pipeline.now.table pipeline.now.key p × (p.phase ≡ phase.Idle) × (p.over ≡ false)) passes.old.items }
-    requires seats { pools.AreIdle pool.now.table seats.old.items }
-    requires room { (vec_len passes.old ≡ vec_len seats.old) × (vec_len passes.old ≤ vec_capacity hands.old) × (hands.old.items ≡ []) }
-    ensures hands { All (λ h. IsReady pipeline.now.table pipeline.now.key pool.now.table h.pass h.scratch) hands.new.items × (vec_len hands.new ≡ vec_len passes.old) }
-    ensures passes { (passes.new.items ≡ []) × (vec_capacity passes.new ≡ vec_capacity passes.old) }
-{
-    while let Some(pass) = passes.pop() {
-        let Some(scratch) = seats.pop() else {
-            unreachable!()
-        };
-        hands.push_reserved(Hand { pass, scratch });
-    }
-}
-
-// Takes the passes of the pipeline out of the hands.
-fn part(
-    pipeline: &Pipeline<Digits>,
-    pool: &Pool<u64>,
-    hands: &mut Vec<Hand<Digits>>,
-    passes: &mut Vec<Pass<Digits>>,
-)
-    requires hands { All (λ h. IsDone pipeline.now.table pool.now.table h.pass h.scratch) hands.old.items }
-    requires room { (passes.old.items ≡ []) × (vec_len hands.old ≤ vec_capacity passes.old) }
-    ensures { AreIdle pipeline.now.table passes.new.items × (vec_len passes.new ≡ vec_len hands.old) × (hands.new.items ≡ []) }
-{
-    while let Some(hand) = hands.pop() {
-        let Hand { pass, scratch: _ } = hand;
-        passes.push_reserved(pass);
-    }
-}
-
-fn work_in_threads<R: Threads + Wait + Sync>(
-    rt: &R,
-    job: &Digits,
-    pipeline: &Pipeline<Digits>,
-    pool: &Pool<u64>,
-    hands: &mut Vec<Hand<Digits>>,
-)
-    requires hands { All (λ h. IsReady pipeline.now.table pipeline.now.key pool.now.table h.pass h.scratch) hands.old.items }
-    requires some { (0 < vec_len hands.old) × (job.now ≡ pipeline.now.key.job.value) }
-    ensures { (vec_len hands.new ≡ vec_len hands.old) × All (λ h. IsDone pipeline.now.table pool.now.table h.pass h.scratch) hands.new.items }
-{
-    run_ordered(rt, job, pipeline, pool, hands.as_mut_slice(), &OpenGate);
-}
-
-// The copied count and the number after hands have worked 16 items.
+// The state after workers have run 16 items, and how many copy objects and scratch objects came back.
 fn run<R: Threads + Wait + Sync>(
     rt: &R,
     alloc: Global,
-    objects: Vec<u64>,
+    scratches: Vec<u64>,
     copies: Vec<u64>,
-    count: u32,
-) -> Result<(u64, u64), Fail>
-    requires objects { (0 < vec_len objects) × (vec_len objects ≤ 64) }
+    workers: u32,
+) -> Result<(u64, usize, usize), Fail>
+    requires scratches { (0 < vec_len scratches) × (vec_len scratches ≤ 64) }
     requires copies { (0 < vec_len copies) × (vec_len copies ≤ 256) }
-    requires count { (0 < count) × (count ≤ 64) }
+    requires workers { (0 < workers) × (workers ≤ 64) }
 {
     let job = Digits { items: 16 };
-    let mut hands = Vec::with_capacity(alloc, count as usize)?;
-    let Ok((pool, mut seats)) = Pool::new(alloc, objects, count) else {
-        hands.destroy_empty();
-        return Err(Fail::from("memory"));
+    let given = JobData {
+        copies,
+        scratches,
+        state: 0,
     };
-    let Ok((pipeline, mut passes)) = Pipeline::new(alloc, &job, copies, 0, count) else {
-        hands.destroy_empty();
-        return Err(Fail::from("memory"));
-    };
-    pair(&pipeline, &pool, &mut passes, &mut seats, &mut hands);
-    work_in_threads(rt, &job, &pipeline, &pool, &mut hands);
-    part(&pipeline, &pool, &mut hands, &mut passes);
-    hands.destroy_empty();
-    let Ended {
-        copies: _,
-        state,
-        copied,
-    } = pipeline.close(passes);
-    Ok((copied, state))
+    match run_job(rt, alloc, &job, given, workers, &OpenGate) {
+        Ok(done) => Ok((done.state, done.copies.len(), done.scratches.len())),
+        Err(_) => Err(Fail::from("memory")),
+    }
 }
 
 #[test]
-fn hands_append_the_digits_in_order(rt: HostRuntime) -> Result<(), Fail> {
-    for (objects, queue, hands) in [(1, 1, 1), (2, 1, 2), (1, 3, 2), (3, 2, 8), (2, 8, 8)] {
-        let objects = vec![in rt.alloc(); 0u64; objects]?;
+fn workers_append_the_digits_in_order(rt: HostRuntime) -> Result<(), Fail> {
+    for (objects, queue, workers) in [(1, 1, 1), (2, 1, 2), (1, 3, 2), (3, 2, 8), (2, 8, 8)] {
+        let scratches = vec![in rt.alloc(); 0u64; objects]?;
         let copies = vec![in rt.alloc(); 0u64; queue]?;
-        let (copied, state) = run(&rt, rt.alloc(), objects, copies, hands)?;
-        assert_eq!(rt; copied, 16, "queue {queue}, {hands} hands");
+        let (state, copies, scratches) = run(&rt, rt.alloc(), scratches, copies, workers)?;
         assert_eq!(rt;
             state,
             0x0123_4567_89ab_cdef,
-            "queue {queue}, {hands} hands"
+            "queue {queue}, {workers} workers"
         );
+        assert_eq!(rt; (copies, scratches), (queue, objects));
     }
     Ok(())
 }

@@ -1,5 +1,8 @@
-ghost use Rattle.std.specs.Prelude.{◌≡◌, ◌≤◌, ◌++◌, ◌∷◌, [], length, vec_capacity, IfOk};
-ghost use Rattle.matrix_market.specs.Entries.{Fills, values_of};
+ghost use Rattle.std.specs.Prelude.{◌≡◌, ◌≤◌, ◌++◌, ◌∷◌, [], length, vec_capacity, All, IfOk};
+ghost use Rattle.std.specs.Int.{w128};
+ghost use Rattle.std.specs.Int.RustNames.{FitsSigned};
+ghost use Rattle.matrix_market.specs.Entries.{Fills, values_of, entries_of};
+ghost use Rattle.matrix_market.specs.Market.{MatrixText};
 ghost use Rattle.fem_text.specs.Written.{text_of};
 ghost use Rattle.matrix_market.specs.Texts.{entry_line};
 ghost use Rattle.matrix_market.specs.Texts as written;
@@ -16,12 +19,15 @@ const HEAD: &[u8] = b"%%MatrixMarket matrix coordinate integer general\n% unit 2
 
 /// The text of a matrix over a pattern, with values in units of 2^-32: after the banner and a comment that names the
 /// unit the line `rows columns entries`, and then a line `i j v` for each pair of the pattern, also where the value is
-/// 0, by row and then by column, both counted from 1.
+/// 0, by row and then by column, both counted from 1. What is written is read back: the text, whose values
+/// are numbers of 128 bits, is one of this matrix.
 ///
 /// The text is written into one buffer, which is taken once with just the size of the text.
 pub fn matrix_text(alloc: Global, pattern: &Pattern, rows: &Rows) -> Result<Vec<u8>, NoMemory>
     requires { Fills (values_of rows.now) pattern.now }
-    ensures { IfOk result (λ text. text.items ≡ written.matrix_text pattern.now (values_of rows.now)) }
+    ensures text { IfOk result (λ text. text.items ≡ written.matrix_text pattern.now (values_of rows.now)) }
+    ensures read_back { IfOk result (λ text. All (All (FitsSigned w128)) (values_of rows.now) → MatrixText text.items
+        (record { rows = length pattern.now; columns = length pattern.now; entries = entries_of pattern.now (values_of rows.now) })) }
 {
     let mut text = reserve(alloc, matrix_size(pattern, rows))?;
     append_front(&mut text, pattern.size(), pattern.entries());

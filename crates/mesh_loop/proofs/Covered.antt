@@ -18,7 +18,7 @@ use Rattle.cell_blocks.specs.Blocks.{Given, visit_dofs, visit_form, with_dofs, b
 use Rattle.cell_blocks.specs.Visited.{fault_in, blocks_in}
 use Rattle.fixed_q1.specs.declared.fault.LocalFault.{LocalFault}
 use Rattle.fixed_q1.specs.LocalForm.{LocalForm}
-use Rattle.local_blocks.specs.Blocks.{LocalBlock, IsBlock}
+use Rattle.cell_blocks.specs.LocalBlocks.{LocalBlock, IsBlock}
 use Rattle.mesh_visits.specs.declared.visit.Visit.{Visit}
 use Rattle.mesh_visits.specs.declared.visit.Visit.TheVariants.{Cell as OnCell}
 use Rattle.serial_sum.specs.Rows.{IsFor}

@@ -7,7 +7,7 @@ use Rattle.std.proofs.lemmas.Bool.{cases_lt}
 use Rattle.std.proofs.lemmas.List.{take-append-le, take-append-drop, get_or_append_left, get_or_past}
 use Rattle.std.proofs.lemmas.List.FromFn.{take-map-range_with_len}
 use Rattle.fixed_q1.specs.declared.fault.LocalFault.{LocalFault}
-use Rattle.serial_sum.specs.declared.part.CellPart.{CellPart}
+use Rattle.serial_sum.specs.Parts.{CellPart}
 use Rattle.serial_sum.specs.declared.sum.Failure.{Failure}
 use Rattle.serial_sum.specs.declared.sum.Failure.TheVariants.{Local, Sum}
 use Rattle.serial_sum.specs.SerialSum.{entry, part_at, FailsLocally, FailsAtRow, Fails, IsLeastRow, FailsFirst, FailsAs, SumIs}

@@ -9,10 +9,10 @@ use Rattle.affine_constraints.specs.Lines.{AffineLine, lines_in}
 use Rattle.block_sums.specs.Masters.{Holds}
 use Rattle.cell_blocks.specs.Blocks.{Given, visit_dofs, visit_form, with_dofs, block_of, blocks_of, all_blocks, in_front, cell_blocks}
 use Rattle.cell_blocks.specs.Visited.{blocks_in}
-use Rattle.cell_sums.specs.Parts.{IsHeld, HoldsAll}
+use Rattle.block_sums.specs.Parts.{IsHeld, HoldsAll}
 use Rattle.fixed_q1.specs.declared.fault.LocalFault.{LocalFault}
 use Rattle.fixed_q1.specs.LocalForm.{LocalForm}
-use Rattle.local_blocks.specs.Blocks.{LocalBlock}
+use Rattle.cell_blocks.specs.LocalBlocks.{LocalBlock}
 use Rattle.mesh_visits.specs.declared.visit.Visit.{Visit}
 use Rattle.mesh_loop.specs.Setup.{MeshProblem, IsMatched, cell_visits, pattern_of, HoldsVisit}
 use Rattle.mesh_loop.specs.Parts.{IsVisitBelow, IsCellFit}

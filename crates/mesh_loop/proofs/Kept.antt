@@ -7,7 +7,7 @@ use Rattle.std.proofs.lemmas.List.FromFn.{length-range_with_len, length-map-rang
 use Rattle.std.proofs.lemmas.List.Kept.{IsStrictlyIncreasing-filter}
 use Rattle.cell_blocks.specs.Blocks.{blocks_of, cell_blocks}
 use Rattle.fixed_q1.specs.declared.fault.LocalFault.{LocalFault}
-use Rattle.local_blocks.specs.Blocks.{LocalBlock}
+use Rattle.cell_blocks.specs.LocalBlocks.{LocalBlock}
 use Rattle.mesh_visits.specs.declared.visit.Visit.{Visit}
 use Rattle.mesh_visits.specs.Within.{IsVisitWithin, IsFit}
 use Rattle.sparsity.specs.Coupled.{has}
@@ -45,10 +45,10 @@ pub visits_held : (s now : MeshProblem) (cell : ℕ) (visits : List Visit) → s
 visits_held s now cell visits view fit within are = subst (All (HoldsVisit now cell)) (sym are) (all_hold now cell within (cell_fit s now cell view fit within).below)
 
 pub visits_within : (s now : MeshProblem) (cell : ℕ) (visits : List Visit) → s ≡ now → ((c : ℕ) → c < length s.given.forest.cells → IsCellFit s c) → cell < length now.given.forest.cells → visits ≡ cell_visits now cell →
-    IsFit s.given.forest 9 visits
+    IsFit s.given.forest 9 4 8 visits
 visits_within s now cell visits view fit within are =
-    let P : MeshProblem → Type 0 = λ t. IsFit t.given.forest 9 visits in
-    subst P (sym view) (subst (IsFit now.given.forest 9) (sym are) (cell_fit s now cell view fit within).fit)
+    let P : MeshProblem → Type 0 = λ t. IsFit t.given.forest 9 4 8 visits in
+    subst P (sym view) (subst (IsFit now.given.forest 9 4 8) (sym are) (cell_fit s now cell view fit within).fit)
 
 pub blocks_seen : (s now : MeshProblem) (cell : ℕ) (visits : List Visit) (copy : Result (List LocalBlock) LocalFault) → s ≡ now → visits ≡ cell_visits now cell → copy ≡ blocks_of s.given cell visits →
     copy ≡ cell_blocks now.flags now.given cell
@@ -68,5 +68,5 @@ unfolding written_rows
 written_rise s cell rows are =
     subst IsStrictlyIncreasing (sym are) (IsStrictlyIncreasing-filter (has (flat_map (visit_rows s cell) (cell_visits s cell))) (range_with_len 0 s.given.dofs.size) (range_rises s.given.dofs.size))
 
-pub each_within : (s : MeshProblem) (cell : ℕ) (visits : List Visit) → visits ≡ cell_visits s cell → IsFit s.given.forest 9 (cell_visits s cell) → All (IsVisitWithin s.given.forest) visits
+pub each_within : (s : MeshProblem) (cell : ℕ) (visits : List Visit) → visits ≡ cell_visits s cell → IsFit s.given.forest 9 4 8 (cell_visits s cell) → All (IsVisitWithin s.given.forest) visits
 each_within s cell visits are fit = subst (All (IsVisitWithin s.given.forest)) (sym are) fit.within

@@ -15,7 +15,7 @@ use Rattle.fixed_q1.specs.JumpForm.{jump_form}
 use Rattle.fixed_q1.specs.Places.{reference_place}
 use Rattle.fixed_q1.proofs.FaceBounds.{boundary_none}
 use Rattle.problem_read.specs.LookUps.{diffusion_on, source_on, robin_on, penalty_in}
-use Rattle.local_blocks.specs.Blocks.{LocalBlock, IsBlock}
+use Rattle.cell_blocks.specs.LocalBlocks.{LocalBlock, IsBlock}
 use Rattle.cell_blocks.specs.Blocks.{Given, material_of, points_of, dofs_of, end_points, end_dofs, part_ends, face_form, own_form, part_form, with_dofs, block_of}
 use Rattle.cell_blocks.proofs.Made.{square_block, cell_square, face_square, part_square}
 use Rattle.mesh_visits.specs.declared.visit.Visit.TheVariants.{Cell as OnCell, Boundary as OnBoundary, Interior as OnPart}

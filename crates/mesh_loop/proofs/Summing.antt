@@ -10,13 +10,13 @@ use Rattle.std.proofs.lemmas.List.Sums.{fold-append}
 use Rattle.affine_constraints.specs.Lines.{AffineLine, lines_in}
 use Rattle.cell_blocks.specs.Blocks.{cell_blocks}
 use Rattle.cell_blocks.specs.Visited.{fault_in}
-use Rattle.cell_sums.specs.Parts.{part_of_blocks}
+use Rattle.block_sums.specs.Parts.{part_of_blocks}
 use Rattle.fixed_q1.specs.declared.fault.LocalFault.{LocalFault}
-use Rattle.local_blocks.specs.Blocks.{LocalBlock}
+use Rattle.cell_blocks.specs.LocalBlocks.{LocalBlock}
 use Rattle.serial_sum.specs.Columns.{AreRising}
 use Rattle.serial_sum.specs.SerialSum.{SumIs}
 use Rattle.serial_sum.specs.Steps.{step_of, formed_step, zero_state, answer_of, failure_fault, FaultIs, IsPartFor}
-use Rattle.serial_sum.specs.declared.part.CellPart.{CellPart}
+use Rattle.serial_sum.specs.Parts.{CellPart}
 use Rattle.serial_sum.specs.declared.sum.Failure.{Failure}
 use Rattle.serial_sum.specs.declared.sum.MatrixState.{MatrixState}
 use Rattle.serial_sum.proofs.RowLaws.{rows_rising as columns_rise}

@@ -3,7 +3,7 @@ use Rattle.std.specs.Prelude.{◌≡◌, ℕ, ◌<◌, ◌≤◌, ◌^◌, All, 
 use Rattle.affine_constraints.specs.Closing.{AreClosedForms}
 use Rattle.cell_blocks.specs.Blocks.{cell_blocks}
 use Rattle.cell_blocks.specs.Visited.{blocks_in}
-use Rattle.local_blocks.specs.Blocks.{IsBlock}
+use Rattle.cell_blocks.specs.LocalBlocks.{IsBlock}
 use Rattle.mesh_loop.specs.Setup.{MeshProblem, cell_visits}
 
 -- the closed lines are for the dofs and within their limits, there are at most 2 ^ 20 cells, a cell has at most nine

@@ -3,7 +3,7 @@ use Rattle.std.specs.Prelude.{◌≡◌, ℕ, ◌<◌, List, All, length, map, I
 use Rattle.affine_constraints.specs.Lines.{lines_in}
 use Rattle.cell_blocks.specs.Blocks.{visit_dofs, block_of}
 use Rattle.cell_blocks.specs.Views.{given}
-use Rattle.local_blocks.specs.Blocks.{IsBlock}
+use Rattle.cell_blocks.specs.LocalBlocks.{IsBlock}
 use Rattle.mesh_visits.specs.declared.visit.Visit.{Visit}
 use Rattle.mesh_visits.specs.Within.{IsFit}
 use Rattle.mesh_loop.specs.declared.source.Source.{Source}
@@ -24,7 +24,7 @@ pub record IsVisitBelow (s : MeshProblem) (cell : ℕ) (visit : Visit) : Type 0 
 
 -- the visits of a cell: at most nine, each within the mesh, with dofs that are there
 pub record IsCellFit (s : MeshProblem) (cell : ℕ) : Type 0 where
-  pub fit : IsFit s.given.forest 9 (cell_visits s cell)
+  pub fit : IsFit s.given.forest 9 4 8 (cell_visits s cell)
   pub below : All (IsVisitBelow s cell) (cell_visits s cell)
 
 -- the visits, the written rows and the pattern of the problem

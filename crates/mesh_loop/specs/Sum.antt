@@ -3,10 +3,10 @@ use Rattle.std.specs.Prelude.{◌≡◌, ℕ, ◌<◌, true, List, All, length, 
 use Rattle.affine_constraints.specs.Lines.{lines_in}
 use Rattle.cell_blocks.specs.Blocks.{cell_blocks}
 use Rattle.cell_blocks.specs.Visited.{blocks_in}
-use Rattle.cell_sums.specs.Parts.{part_of_blocks, HoldsAll}
+use Rattle.block_sums.specs.Parts.{part_of_blocks, HoldsAll}
 use Rattle.fixed_q1.specs.declared.fault.LocalFault.{LocalFault}
 use Rattle.serial_sum.specs.Steps.{IsPartFor}
-use Rattle.serial_sum.specs.declared.part.CellPart.{CellPart}
+use Rattle.serial_sum.specs.Parts.{CellPart}
 use Rattle.serial_sum.specs.declared.part.Contribution.{Contribution}
 use Rattle.sparsity.specs.Coupled.{has}
 use Rattle.mesh_loop.specs.Setup.{MeshProblem, pattern_of, written_rows}

@@ -58,7 +58,7 @@ struct Gathered {
 fn gather(alloc: Global, source: &Source, visits: &Lists<Visit>) -> Result<Gathered, NoMemory>
     requires matched { IsMatched (shown source.now) }
     requires visits { visits.now ≡ map (cell_visits (shown source.now)) (cells_of (shown source.now)) }
-    requires fit { (cell : ℕ) → cell < length (shown source.now).given.forest.cells → IsFit (shown source.now).given.forest 9 (cell_visits (shown source.now) cell) }
+    requires fit { (cell : ℕ) → cell < length (shown source.now).given.forest.cells → IsFit (shown source.now).given.forest 9 4 8 (cell_visits (shown source.now) cell) }
     ensures couplings { IfOk result (λ gathered. gathered.couplings ≡ coupled_dofs (shown source.now)) }
     ensures rows { IfOk result (λ gathered. gathered.rows ≡ map (written_rows (shown source.now)) (cells_of (shown source.now))) }
     ensures below { OnOk result ((cell : ℕ) → cell < length (shown source.now).given.forest.cells → All (IsVisitBelow (shown source.now) cell) (cell_visits (shown source.now) cell)) }

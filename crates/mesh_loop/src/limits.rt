@@ -2,7 +2,7 @@ ghost use Rattle.std.specs.Prelude.{◌<◌, length, IfOk};
 ghost use Rattle.cell_blocks.specs.Blocks.{block_of, visit_dofs};
 ghost use Rattle.cell_blocks.specs.Views.{given};
 ghost use Rattle.dof_numbers.specs.Dofs.{IsNumberingOf};
-ghost use Rattle.local_blocks.specs.Blocks.{IsBlock};
+ghost use Rattle.cell_blocks.specs.LocalBlocks.{IsBlock};
 ghost use Rattle.mesh_visits.specs.Within.{IsVisitWithin};
 
 use cell_blocks::Setting;

@@ -5,9 +5,8 @@ ghost use Rattle.mesh_loop.specs.Setup.{cells_of, pattern_of};
 ghost use Rattle.mesh_loop.specs.Sum.{parts_of};
 
 use crate::setup::Setup;
-use block_sums::System;
+use block_sums::{System, add_cell};
 use cell_blocks::{CellCopy, CellScratch};
-use cell_sums::add_cell;
 use serial_sum::AssembleFault;
 use sparsity::Rows;
 use std::alloc::Global;

@@ -4,7 +4,7 @@ ghost use Rattle.affine_constraints.specs.Closing.{IsClosedForm};
 ghost use Rattle.affine_constraints.specs.Lines.{lines_in};
 ghost use Rattle.cell_blocks.specs.Blocks.{cell_blocks};
 ghost use Rattle.cell_blocks.specs.Visited.{blocks_in};
-ghost use Rattle.cell_sums.specs.Parts.{HoldsAll};
+ghost use Rattle.block_sums.specs.Parts.{HoldsAll};
 ghost use Rattle.dof_numbers.specs.Dofs.{IsNumberingOf};
 ghost use Rattle.sparsity.specs.Coupled.{pairs_of};
 ghost use Rattle.sparsity.specs.declared.fault.PatternFault.TheVariants.{Limit as AboveLimit};

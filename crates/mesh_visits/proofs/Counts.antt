@@ -22,7 +22,7 @@ use Rattle.mesh_visits.specs.declared.visit.Visit.{Visit}
 use Rattle.mesh_visits.specs.declared.visit.Visit.TheVariants.{Cell as OnCell, Boundary as OnBoundary, Interior as OnPart}
 use Rattle.mesh_visits.specs.Meeting.{Face, is_face, is_equal, is_half, is_outer, all_faces}
 use Rattle.mesh_visits.specs.Visits.{visits_of, faces_visits, face_visits, cell_visits, boundary_visits, interior_visits, part_visit, part_visits, goes_across, id_of}
-use Rattle.mesh_visits.specs.Laws.{is_own, is_outside, goes_to, count, once_if, count_to, share_part, AreVisited, IsFaceOf, VisitsAreExact}
+use Rattle.mesh_visits.specs.Laws.{goes_to, count, count_to}
 use Rattle.mesh_visits.proofs.Picks.{faces_from, none_pass, one_pass}
 use Rattle.mesh_visits.proofs.Meets.{and_true, and_by, face_true, equal_true, equal_by, half_true, half_by, not_both}
 use Rattle.mesh_visits.proofs.BySide.{is_cell, one, none, one_if, size, half_size, equal_size}

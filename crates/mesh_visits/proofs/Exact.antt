@@ -19,10 +19,10 @@ use Rattle.mesh_visits.specs.declared.flags.Interior.{Interior}
 use Rattle.mesh_visits.specs.declared.flags.Interior.TheVariants.{None as Never, Once, Both}
 use Rattle.mesh_visits.specs.declared.visit.Visit.{Visit}
 use Rattle.mesh_visits.specs.declared.visit.Visit.TheVariants.{Cell as OnCell, Boundary as OnBoundary, Interior as OnPart}
-use Rattle.mesh_visits.specs.Meeting.{Face, is_face, is_equal, is_half, is_outer, all_faces}
+use Rattle.mesh_visits.specs.Meeting.{Face, AreApart, is_face, is_equal, is_half, is_outer, all_faces}
 use Rattle.mesh_visits.specs.Visits.{face_visits, faces_visits, cell_visits, boundary_visits, interior_visits, part_visit, part_visits, goes_across, id_of}
-use Rattle.mesh_visits.specs.Laws.{is_own, is_outside, count, once_if, count_to, share_part, AreVisited, IsFaceOf, VisitsAreExact}
-use Rattle.mesh_visits.proofs.Meets.{equal_true, equal_by, half_true, not_both}
+use Rattle.mesh_visits.specs.Laws.{is_own, is_outside, count, once_if, count_to, IsOuter, SharePart, AreVisited, IsFaceOf, VisitsAreExact}
+use Rattle.mesh_visits.proofs.Meets.{equal_true, equal_by, half_true, not_both, outer_is, outer_of, Meeting, on_edge, in_first, in_second, has_first, has_second, meeting_by}
 use Rattle.mesh_visits.proofs.BySide.{is_cell, size, half_size, equal_size}
 use Rattle.mesh_visits.proofs.Counts.{counted, counted-append, counted_map, ind, visits_to, told, count_is, cell_count, faces_count, at_face, equal_itself}
 
@@ -84,6 +84,13 @@ pub record TwoFaces (forest : RefinedMesh) (a b : Face) : Type 0 where
 up_size : (forest : RefinedMesh) (half : ℕ) (a b : Face) → is_half forest half a b ≡ true → size forest b.0 b.1 < size forest a.0 a.1
 up_size forest half a b h = half_size forest a.0 a.1 b.0 b.1 (half_end b.1 half) (half_true forest half a b h)
 
+-- a face is no half of itself
+half_apart : (forest : RefinedMesh) (half : ℕ) (a b : Face) → is_half forest half a b ≡ true → AreApart a b
+half_apart forest half a b h p q =
+    let s = up_size forest half a b h in
+    let e : size forest a.0 a.1 ≡ size forest b.0 b.1 = ap (λ c. size forest c a.1) p ∙ ap (λ f. size forest b.0 f) q in
+    omega (arith, s, e)
+
 same_size : (forest : RefinedMesh) (a b : Face) → is_equal forest a b ≡ true → size forest a.0 a.1 ≡ size forest b.0 b.1
 same_size forest a b h = equal_size forest a.0 a.1 b.0 b.1 (equal_true forest a b h).1
 
@@ -144,26 +151,35 @@ visited_edge interior forest a b t h =
       down1 = not_true (is_half forest 1 b a) (λ k. let l = up_size forest 1 b a k in omega (arith, s, l));
     }) (edge_exact interior a b (λ p. apart forest a b t h p))
 
-visited : (interior : Interior) (forest : RefinedMesh) (a b : Face) → TwoFaces forest a b → share_part forest a b ≡ true → AreVisited interior (told interior forest a b) (told interior forest b a)
-unfolding share_part
-visited interior forest a b t h =
-    let R : Type 0 = AreVisited interior (told interior forest a b) (told interior forest b a) in
-    let back : AreVisited interior (told interior forest b a) (told interior forest a b) → R = turn_back interior (told interior forest b a) (told interior forest a b) in
-    let E : Bool = is_equal forest a b in let u : Bool = is_half forest 0 a b in let v : Bool = is_half forest 1 a b in let p : Bool = is_half forest 0 b a in let q : Bool = is_half forest 1 b a in
-    ⊎_elim
-    (λ (k : (E || u || v || p) ≡ true). ⊎_elim
-    (λ (l : (E || u || v) ≡ true). ⊎_elim
-    (λ (m : (E || u) ≡ true). ⊎_elim (λ (n : E ≡ true). visited_edge interior forest a b t n) (λ (n : u ≡ true). visited_up0 interior forest a b t n) (or_true E u m))
-    (λ (m : v ≡ true). visited_up1 interior forest a b t m) (or_true (E || u) v l))
-    (λ (l : p ≡ true). back (visited_up0 interior forest b a (turned forest a b t) l)) (or_true (E || u || v) p k))
-    (λ (k : q ≡ true). back (visited_up1 interior forest b a (turned forest a b t) k))
-    (or_true (E || u || v || p) q h)
+by_meeting : (interior : Interior) (forest : RefinedMesh) (a b : Face) → TwoFaces forest a b → Meeting forest a b → AreVisited interior (told interior forest a b) (told interior forest b a)
+by_meeting interior forest a b t (on_edge h) = visited_edge interior forest a b t h
+by_meeting interior forest a b t (in_first h) = visited_up0 interior forest a b t h
+by_meeting interior forest a b t (in_second h) = visited_up1 interior forest a b t h
+by_meeting interior forest a b t (has_first h) = turn_back interior (told interior forest b a) (told interior forest a b) (visited_up0 interior forest b a (turned forest a b t) h)
+by_meeting interior forest a b t (has_second h) = turn_back interior (told interior forest b a) (told interior forest a b) (visited_up1 interior forest b a (turned forest a b t) h)
 
-parts_exact : (flags : Flags) (forest : RefinedMesh) → IsGrown forest → (a b : Face) → IsFaceOf forest a → IsFaceOf forest b → share_part forest a b ≡ true →
+parts_exact : (flags : Flags) (forest : RefinedMesh) → IsGrown forest → (a b : Face) → IsFaceOf forest a → IsFaceOf forest b → SharePart forest a b →
     AreVisited flags.interior (count_to flags forest a b) (count_to flags forest b a)
 parts_exact flags forest grown a b ha hb h =
     rw (count_is flags forest a.0 a.1 b.0 b.1 ha.1 hb.0 hb.1, count_is flags forest b.0 b.1 a.0 a.1 hb.1 ha.0 ha.1)
-    (visited flags.interior forest a b (record { grown = grown; here = ha; there = hb }) h)
+    (by_meeting flags.interior forest a b (record { grown = grown; here = ha; there = hb }) (meeting_by forest a b h))
+
+-- faces of which no test says anything
+none_exact : (interior : Interior) (b : Bool) → visits_to interior (b && false) false false false false ≡ 0
+none_exact Never b = refl
+none_exact Once b = let e = ap ind (and_false b) in omega (arith, e)
+none_exact Both b = let e = ap ind (and_false b) in omega (arith, e)
+
+none_told : (interior : Interior) (forest : RefinedMesh) (a b : Face) → (SharePart forest a b → ⊥) → told interior forest a b ≡ 0
+none_told interior forest a b h =
+    let e = not_true (is_equal forest a b) (λ t. let k = equal_true forest a b t in h (k.0, inl k.1)) in
+    let up : (half : ℕ) → is_half forest half a b ≡ false = λ half. not_true (is_half forest half a b) (λ t. h (half_apart forest half a b t, inr (inl (half_end b.1 half, half_true forest half a b t)))) in
+    let down : (half : ℕ) → is_half forest half b a ≡ false =
+    λ half. not_true (is_half forest half b a) (λ t. let k = half_apart forest half b a t in h ((λ p q. k (sym p) (sym q)), inr (inr (half_end a.1 half, half_true forest half b a t)))) in
+    rw (e, up 0, up 1, down 0, down 1) (none_exact interior (goes_across interior a b))
+
+others_exact : (flags : Flags) (forest : RefinedMesh) (a b : Face) → IsFaceOf forest a → IsFaceOf forest b → (SharePart forest a b → ⊥) → count_to flags forest a b ≡ 0
+others_exact flags forest a b ha hb h = count_is flags forest a.0 a.1 b.0 b.1 ha.1 hb.0 hb.1 ∙ none_told flags.interior forest a b h
 
 none_pass_test : (q : Face → Bool) (xs : List Face) → ((y : Face) → q y ≡ false) → filter q xs ≡ []
 none_pass_test q [] h = refl
@@ -251,5 +267,19 @@ boundary_exact flags forest c f hf =
     (λ h q. face_count t flags forest (c, h) 0 (λ m u y. refl) (outside_other f h (id_of forest (c, h)) (flags.boundary && is_outer forest (c, h)) q)) in
     omega (arith, s, k, o, w)
 
+outer_exact : (flags : Flags) (forest : RefinedMesh) (c f : ℕ) → f < 4 → IsOuter forest (c, f) → count (is_outside f) flags forest c ≡ once_if flags.boundary
+outer_exact flags forest c f hf h =
+    boundary_exact flags forest c f hf ∙ ap (λ b. once_if (flags.boundary && b)) (outer_of forest (c, f) h) ∙ ap once_if (and_true_right flags.boundary)
+
+inner_exact : (flags : Flags) (forest : RefinedMesh) (c f : ℕ) → f < 4 → (IsOuter forest (c, f) → ⊥) → count (is_outside f) flags forest c ≡ 0
+inner_exact flags forest c f hf h =
+    boundary_exact flags forest c f hf ∙ ap (λ b. once_if (flags.boundary && b)) (not_true (is_outer forest (c, f)) (λ t. h (outer_is forest (c, f) t))) ∙ ap once_if (and_false flags.boundary)
+
 pub exact : (flags : Flags) (forest : RefinedMesh) → IsGrown forest → VisitsAreExact flags forest
-exact flags forest grown = record { own = own_exact flags forest; boundary = boundary_exact flags forest; parts = parts_exact flags forest grown }
+exact flags forest grown = record {
+  own = own_exact flags forest;
+  boundary = outer_exact flags forest;
+  inner = inner_exact flags forest;
+  parts = parts_exact flags forest grown;
+  others = others_exact flags forest;
+}

@@ -3,3 +3,4 @@ pub mod Visits
 pub mod SideVisits
 pub mod Within
 pub mod Laws
+pub mod Tests

@@ -10,6 +10,6 @@ mod visit;
 mod visits;
 
 pub use flags::{Flags, Interior};
-pub use laws::visits_are_exact;
+pub use laws::{tests_are_exact, visits_are_exact};
 pub use visit::Visit;
 pub use visits::make_visits;

@@ -17,7 +17,7 @@ use std::alloc::Global;
 /// It takes one pass over the cells.
 pub fn make_visits(alloc: Global, forest: &Forest, flags: Flags) -> Result<Lists<Visit>, NoMemory>
     ensures visits { IfOk result (λ lists. lists ≡ map (visits_of flags forest.now) (range_with_len 0 (length forest.now.cells))) }
-    ensures fit { IfOk result (λ lists. (cell : ℕ) → cell < length forest.now.cells → IsFit forest.now 9 (visits_of flags forest.now cell)) }
+    ensures fit { IfOk result (λ lists. (cell : ℕ) → cell < length forest.now.cells → IsFit forest.now 9 4 8 (visits_of flags forest.now cell)) }
 {
     let mut lists = Lists::new(alloc);
     let mut room = Vec::new(alloc);
@@ -40,7 +40,7 @@ fn push_cell(
     requires grown { IsGrown forest.now }
     requires cell { cell < length forest.now.cells }
     ensures visits { OnOk result (visits.new.items ≡ visits.old.items ++ visits_of flags forest.now cell) }
-    ensures fit { OnOk result (IsFit forest.now 9 (visits_of flags forest.now cell)) }
+    ensures fit { OnOk result (IsFit forest.now 9 4 8 (visits_of flags forest.now cell)) }
 {
     if flags.cells_after_faces {
         push_faces(visits, forest, flags, cell)?;
@@ -71,7 +71,7 @@ fn push_faces(
     requires grown { IsGrown forest.now }
     requires cell { cell < length forest.now.cells }
     ensures visits { OnOk result (visits.new.items ≡ visits.old.items ++ faces_visits flags forest.now cell) }
-    ensures fit { OnOk result (IsFit forest.now 8 (faces_visits flags forest.now cell)) }
+    ensures fit { OnOk result (IsFit forest.now 8 4 8 (faces_visits flags forest.now cell)) }
 {
     push_face(visits, forest, flags, cell, 0)?;
     push_face(visits, forest, flags, cell, 1)?;
@@ -92,7 +92,7 @@ fn push_face(
     requires cell { cell < length forest.now.cells }
     requires face { face < 4 }
     ensures visits { OnOk result (visits.new.items ≡ visits.old.items ++ face_visits flags forest.now (cell, face)) }
-    ensures fit { IsFit forest.now 2 (face_visits flags forest.now (cell, face)) }
+    ensures fit { IsFit forest.now 2 1 2 (face_visits flags forest.now (cell, face)) }
 {
     let side = forest.side(cell, face);
     push_side(visits, flags, cell, face, side)

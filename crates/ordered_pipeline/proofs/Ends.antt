@@ -37,17 +37,17 @@ number_at c q k lt =
     second : (c q t r k : ℕ) → q * t + r ≡ c → r < q → k < r → c + (k + q - r) ≡ k + (t + 1) * q
     second c q t r k e lt le = omega arith
 
-single : {A : Type 0} (a v : A) (p : ℕ) → get_elem? (a ∷ []) p ≡ some v → a ≡ v
+pub single : {A : Type 0} (a v : A) (p : ℕ) → get_elem? (a ∷ []) p ≡ some v → a ≡ v
 single a v zero e = some-injective a v e
 single a v (suc p) e = absurd (some-ne-none v (sym e))
 
-zero_odd : (n : ℕ) → 0 ≡ READY n → ⊥
+pub zero_odd : (n : ℕ) → 0 ≡ READY n → ⊥
 zero_odd n e = omega arith
 
 two_odd : (n : ℕ) → 2 ≡ READY n → ⊥
 two_odd n e = omega arith
 
-zero_turn : (n : ℕ) → 0 ≡ TURN n → ⊥
+pub zero_turn : (n : ℕ) → 0 ≡ TURN n → ⊥
 zero_turn n e = omega arith
 
 two_turn : (n : ℕ) → 2 ≡ TURN n → n ≡ 0

@@ -66,7 +66,7 @@ module _ {J S C : Type 0} (room : J → C → Type 0) (stands : J → ℕ → C 
       )
 
   pub splits_are_events : SplitsAreEvents room stands step
-  splits_are_events key s p v at = (v, at, refl)
+  splits_are_events key s p v at may = (v, at, may, refl)
 
   pub joins_are_events : JoinsAreEvents room stands step
   joins_are_events key s p q v w at at-w ne idle-v idle-w = (v, w, at, at-w, idle-v, idle-w, ne, refl)

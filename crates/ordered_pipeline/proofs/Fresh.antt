@@ -1,15 +1,10 @@
 -- The passes that a new pipeline gives.
-use Rattle.std.proofs.Common.{◌≡◌, ℕ, zero, suc, List, [], ◌∷◌, false, refl, sym, subst, arith, length, length-append}
+use Rattle.std.proofs.Common.{◌≡◌, ℕ, zero, suc, List, [], ◌∷◌, refl, sym, subst, arith, length, length-append}
 use Rattle.std.specs.List.{All}
 use Rattle.std.proofs.lemmas.List.Elements.{All-nil, All-push}
 use Rattle.atomic_table.specs.Seated.{TableId}
-use Rattle.ordered_pipeline.specs.declared.view.Phase.TheVariants.{Idle}
-use Rattle.ordered_pipeline.specs.Passes.{PassView, IsPassOf}
-use Rattle.ordered_pipeline.specs.Fresh.{fresh, fresh_passes}
-
--- a pass of the pipeline, idle and not over
-abbrev pub IsFresh : {C X : Type 0} → TableId → X → PassView C X → Type 0
-IsFresh table key p = IsPassOf table key p × (p.phase ≡ Idle) × (p.over ≡ false)
+use Rattle.ordered_pipeline.specs.Passes.{PassView}
+use Rattle.ordered_pipeline.specs.Fresh.{IsFresh, AreFresh, fresh, fresh_passes}
 
 all_fresh : (C : Type 0) (X : Type 0) (table : TableId) (key : X) (n : ℕ) → All (IsFresh {C = C} table key) (fresh_passes {C = C} table key n)
 all_fresh C X table key zero = All-nil (IsFresh {C = C} table key)
@@ -25,5 +20,5 @@ module _ {C X : Type 0} where
   length_is table key n passes e = subst (λ (l : List (PassView C X)). length l ≡ n) (sym e) (many_fresh C X table key n)
 
   -- each is a pass of the pipeline, idle and not over
-  pub are_fresh : (table : TableId) (key : X) (n : ℕ) (passes : List (PassView C X)) → passes ≡ fresh_passes table key n → All (λ p. IsPassOf table key p × (p.phase ≡ Idle) × (p.over ≡ false)) passes
+  pub are_fresh : (table : TableId) (key : X) (n : ℕ) (passes : List (PassView C X)) → passes ≡ fresh_passes table key n → AreFresh table key passes
   are_fresh table key n passes e = subst (All (IsFresh table key)) (sym e) (all_fresh C X table key n)

@@ -11,4 +11,6 @@ pub mod Closing
 pub mod Slotted
 pub mod Begins
 pub mod Events
+pub mod States
 pub mod Fresh
+pub mod HandLaws

@@ -1,18 +1,23 @@
--- Each step of the code is one event of the machine, and no other pass takes part in it.
-use Rattle.std.specs.Prelude.{◌≡◌, ◌≢◌, ℕ, ◌+◌, ◌*◌, ◌%◌, ◌^◌, ◌<◌, [], ◌∷◌, ◌++◌, slice_index, slice_set}
+-- A table that keeps the rule shows a state of the machine in which each item has one place, and each copy object and the
+-- baton one pass at most. Each step of the code is one event of the machine, and no other pass takes part in it.
+use Rattle.std.specs.Prelude.{◌≡◌, ◌≢◌, ℕ, ◌+◌, ◌*◌, ◌%◌, ◌^◌, ◌<◌, List, [], ◌∷◌, ◌++◌, slice_index, slice_set, replicate}
 use mathlib.Core.Option.{some}
 use lib.ListN.{get_elem?}
-use Rattle.atomic_table.specs.Table.{State, Act, stepped, rest}
+use Rattle.atomic_table.specs.Table.{State, Act, opening, stepped, rest}
 use Rattle.ordered_pipeline.specs.declared.view.View.{View}
 use Rattle.ordered_pipeline.specs.declared.view.Known.{Known}
 use Rattle.ordered_pipeline.specs.declared.view.Cargo.{Cargo}
 use Rattle.ordered_pipeline.specs.declared.view.Phase.TheVariants.{Idle, Drawn, Started, Baton, Advanced}
 use Rattle.ordered_pipeline.specs.declared.rule.Key.{Key}
-use Rattle.ordered_pipeline.specs.Machine.{READY, TURN, draws, looks, finishes, advances, passes_on, splits, joins, Happens, dealing, dealt, joined, spent_view, phased}
+use Rattle.ordered_pipeline.specs.Machine.{Machine, IsOrdered, IsNew, MayDeal, READY, TURN, draws, looks, finishes, advances, passes_on, splits, joins, Happens, dealing, dealt, joined, spent_view, phased}
 use Rattle.ordered_pipeline.specs.Plays.{Holder, DrewAt, LookedAt, FinishedAt, PassedAt}
-use Rattle.ordered_pipeline.specs.Rule.{Kept, machine}
+use Rattle.ordered_pipeline.specs.Rule.{Kept, machine, first_view}
 
 module _ {J S C : Type 0} (room : J → C → Type 0) (stands : J → ℕ → C → Type 0) (step : J → S → ℕ → S) where
+  -- no item, no copy object and no baton is with two passes, and items that are under way are near
+  abbrev pub StatesAreOrdered : Type 0
+  StatesAreOrdered = (key : Key J S) (s : State (Cargo C S) (View (Known (Key J S)))) → Kept room stands step key s → IsOrdered key.items key.queue (machine s)
+
   -- Each law speaks of a table that keeps the rule, of the pass p, of what the step's play tells of its seat before
   -- and after, and of the table after the step.
   -- a fetch_add of 1 on word 0
@@ -47,7 +52,7 @@ module _ {J S C : Type 0} (room : J → C → Type 0) (stands : J → ℕ → C 
 
   -- a split, and a join of two idle passes
   abbrev pub SplitsAreEvents : Type 0
-  SplitsAreEvents = (key : Key J S) (s : State (Cargo C S) (View (Known (Key J S)))) (p : ℕ) (v : View (Known (Key J S))) → get_elem? s.views p ≡ some v
+  SplitsAreEvents = (key : Key J S) (s : State (Cargo C S) (View (Known (Key J S)))) (p : ℕ) (v : View (Known (Key J S))) → get_elem? s.views p ≡ some v → MayDeal v
       → Happens key.items key.queue (splits p) (machine s) (machine {C = C} record { words = s.words; homes = s.homes; views = slice_set s.views p (dealing v) ++ dealt v ∷ [] })
 
   abbrev pub JoinsAreEvents : Type 0
@@ -56,3 +61,9 @@ module _ {J S C : Type 0} (room : J → C → Type 0) (stands : J → ℕ → C 
 
   abbrev pub StepsAreEvents : Type 0
   StepsAreEvents = DrawsAreEvents × LooksAreEvents × FinishesAreEvents × AdvancesAreEvents × PassesAreEvents × SplitsAreEvents × JoinsAreEvents
+
+-- The words that a new table begins with: 2, which is TURN 0, at the ring's first place, and 0 else. Then nothing is drawn, and
+-- the one pass, which all others are split from, is idle. Each split leaves it so.
+abbrev pub StartsNew : Type 0 → Type 0 → Type 0 → Type 0
+StartsNew J S C = ((key : Key J S) (slots : List (Cargo C S)) → 0 < key.queue → IsNew (machine (opening (slice_set (replicate (8 * key.queue + 16) 0) 16 2) slots (first_view key))))
+    × ((items queue p : ℕ) (m m' : Machine (Known (Key J S))) → IsNew m → Happens items queue (splits p) m m' → IsNew m')

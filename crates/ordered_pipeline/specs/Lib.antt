@@ -9,5 +9,6 @@ pub mod Ending
 pub mod Fresh
 pub mod Answers
 pub mod Hands
+pub mod Crews
 pub mod Slots
 pub mod Laws

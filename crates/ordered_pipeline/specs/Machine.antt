@@ -1,6 +1,6 @@
 -- A pipeline as a machine: its two counters, the words of its ring, and what each pass is doing. Each event is one
 -- atomic step of one caller.
-use Rattle.std.specs.Prelude.{◌≡◌, ◌≢◌, ℕ, ◌+◌, ◌-◌, ◌*◌, ◌%◌, ◌<◌, ◌≤◌, max, List, [], ◌∷◌, ◌++◌, slice_set, None, Some}
+use Rattle.std.specs.Prelude.{◌≡◌, ◌≢◌, ℕ, ◌+◌, ◌-◌, ◌*◌, ◌%◌, ◌<◌, ◌≤◌, max, min, List, [], ◌∷◌, ◌++◌, slice_set, Option, None, Some}
 use mathlib.Core.Option.{some}
 use lib.ListN.{get_elem?}
 use Rattle.scratch_pool.specs.Counts.{raised}
@@ -56,6 +56,10 @@ module _ {X : Type 0} where
   -- that pass
   abbrev pub dealt : View X → View X
   dealt pass = view 1 0 pass.number Idle 0 0 0 pass.key
+
+  -- a pass that another may be split from: it is idle, drew no item, and has a part besides those of its draws past the last one
+  abbrev pub MayDeal : View X → Type 0
+  MayDeal pass = (pass.phase ≡ Idle) × (pass.drawn ≡ 0) × (pass.overs < pass.parts)
 
   -- a pass that has taken in another
   abbrev pub joined : View X → View X → View X
@@ -121,6 +125,65 @@ module _ {X : Type 0} where
   Happens items queue (finishes p n) m m' = Does (Finishes n (m.ring (n % queue))) p m m' × (m'.next ≡ m.next) × (m'.copied ≡ m.copied) × Writes (n % queue) (READY n) m.ring m'.ring
   Happens items queue (advances p n) m m' = Does (Advances n) p m m' × (m'.next ≡ m.next) × (m'.copied ≡ n + 1) × IsSameRing m.ring m'.ring
   Happens items queue (passes_on p n) m m' = Does (PassesOn n (m.ring ((n + 1) % queue))) p m m' × (m'.next ≡ m.next) × (m'.copied ≡ m.copied) × Writes ((n + 1) % queue) (TURN (n + 1)) m.ring m'.ring
-  Happens items queue (splits p) m m' = (v : View (Known X)) × (get_elem? m.passes p ≡ some v) × (m' ≡ record { next = m.next; copied = m.copied; ring = m.ring; passes = slice_set m.passes p (dealing v) ++ dealt v ∷ [] })
+  Happens items queue (splits p) m m' = (v : View (Known X)) × (get_elem? m.passes p ≡ some v) × MayDeal v × (m' ≡ record { next = m.next; copied = m.copied; ring = m.ring; passes = slice_set m.passes p (dealing v) ++ dealt v ∷ [] })
   Happens items queue (joins p q) m m' = (v w : View (Known X)) × (get_elem? m.passes p ≡ some v) × (get_elem? m.passes q ≡ some w) × (v.phase ≡ Idle) × (w.phase ≡ Idle) × (p ≢ q)
       × (m' ≡ record { next = m.next; copied = m.copied; ring = m.ring; passes = slice_set (slice_set m.passes p (joined v w)) q spent_view })
+
+-- the item that a pass has drawn, until it hands it on or goes on to the next
+abbrev pub item_of : Phase → Option ℕ
+item_of Idle = None
+item_of (Drawn n) = Some n
+item_of (Started n) = Some n
+item_of (Baton n) = Some n
+item_of (Advanced n) = Some n
+
+-- the item whose copy object it has
+abbrev pub copies_of : Phase → Option ℕ
+copies_of Idle = None
+copies_of (Drawn n) = None
+copies_of (Started n) = Some n
+copies_of (Baton n) = Some n
+copies_of (Advanced n) = None
+
+-- the item at which it has the baton
+abbrev pub baton_of : Phase → Option ℕ
+baton_of Idle = None
+baton_of (Drawn n) = None
+baton_of (Started n) = None
+baton_of (Baton n) = Some n
+baton_of (Advanced n) = Some n
+
+module _ {X : Type 0} where
+  -- the pass p has this item, of those that it may have by its phase
+  abbrev pub Has : (Phase → Option ℕ) → ℕ → ℕ → Machine X → Type 0
+  Has of n p m = (v : View X) × (get_elem? m.passes p ≡ some v) × (of v.phase ≡ Some n)
+
+  -- item n is finished, and nobody has copied it: it is drawn, and no pass has it
+  abbrev pub Waits : ℕ → ℕ → Machine X → Type 0
+  Waits items n m = (m.copied ≤ n) × (n < min m.next items) × ((p : ℕ) → Has item_of n p m → ⊥)
+
+  -- item n is less than a queue ahead of the copied ones
+  abbrev pub IsNear : ℕ → ℕ → Machine X → Type 0
+  IsNear queue n m = (m.copied ≤ n) × (n < m.copied + queue)
+
+  -- What holds of a pipeline of so many items and copy objects between any two steps.
+  pub record IsOrdered (items queue : ℕ) (m : Machine X) : Type 0 where
+    -- no item is with two passes
+    pub once : (p q n : ℕ) → Has item_of n p m → Has item_of n q m → p ≡ q
+    -- items that are started, at the baton or waiting for it are near, and the word at a waiting one's place is READY
+    pub bounded : (p n : ℕ) → Has copies_of n p m → IsNear queue n m
+    pub waiting : (n : ℕ) → Waits items n m → IsNear queue n m × (m.ring (n % queue) ≡ READY n)
+    -- no copy object is with two passes
+    pub apart : (p q n k : ℕ) → Has copies_of n p m → Has copies_of k q m → n % queue ≡ k % queue → p ≡ q
+    -- the baton is with one pass at most
+    pub one_baton : (p q n k : ℕ) → Has baton_of n p m → Has baton_of k q m → p ≡ q
+    -- no pass has seen more items copied than are
+    pub seen_below : (p : ℕ) (v : View X) → get_elem? m.passes p ≡ some v → v.seen ≤ m.copied
+
+  -- Nothing is drawn or copied, all passes are idle, and the baton rests at item 0: its word alone names an item.
+  pub record IsNew (m : Machine X) : Type 0 where
+    pub none_drawn : m.next ≡ 0
+    pub none_copied : m.copied ≡ 0
+    pub baton : m.ring 0 ≡ TURN 0
+    pub words : (j n : ℕ) → 0 < j → (m.ring j ≢ READY n) × (m.ring j ≢ TURN n)
+    pub idle : (p : ℕ) (v : View X) → get_elem? m.passes p ≡ some v → v.phase ≡ Idle

@@ -2,7 +2,7 @@
 ghost use Rattle.std.specs.Prelude.{◌≡◌, ◌<◌, ℕ, None, true, false, All, length, slice_index_or, IsSome, IsSomeAnd};
 ghost use Rattle.ordered_pipeline.specs.declared.view.Phase.TheVariants as phase;
 ghost use Rattle.ordered_pipeline.specs.Passes.{IsPassOf, IsSame};
-ghost use Rattle.ordered_pipeline.specs.Hands.{IsReady, IsBetween, IsThrough};
+ghost use Rattle.ordered_pipeline.specs.Hands.{IsReady, IsBetween, IsThrough, IsFinished};
 ghost use Rattle.scratch_pool.specs.Pools as pools;
 
 use crate::job::Job;
@@ -135,6 +135,7 @@ pub fn run_ordered<J: Job, G: Gate + Sync, R: Threads + Wait + Sync>(
     requires hands { All (λ h. IsReady pipeline.now.table pipeline.now.key pool.now.table h.pass h.scratch) hands.old }
     ensures len { length hands.new ≡ length hands.old }
     ensures each { (k : ℕ) (d : _) → k < length hands.old → IsThrough (slice_index_or hands.old k d).pass (slice_index_or hands.old k d).scratch (slice_index_or hands.new k d).pass (slice_index_or hands.new k d).scratch }
+    ensures finished { All (λ h. IsFinished pipeline.now.table pipeline.now.key pool.now.table h.pass h.scratch) hands.new }
 {
     let count = hands.len();
     thread::for_each_mut(

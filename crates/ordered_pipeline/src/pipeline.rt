@@ -8,7 +8,7 @@ ghost use Rattle.ordered_pipeline.specs.declared.view.Phase.TheVariants as phase
 ghost use Rattle.ordered_pipeline.specs.declared.view.Cargo.TheVariants as cargo;
 ghost use Rattle.ordered_pipeline.specs.Fold.{fold};
 ghost use Rattle.ordered_pipeline.specs.Machine.{known, view};
-ghost use Rattle.ordered_pipeline.specs.Fresh.{fresh_passes};
+ghost use Rattle.ordered_pipeline.specs.Fresh.{AreFresh, fresh_passes};
 ghost use Rattle.ordered_pipeline.specs.Lines.{line_table, line_key};
 ghost use Rattle.ordered_pipeline.specs.Rule.{first_view};
 ghost use Rattle.ordered_pipeline.specs.Passes.{IsPassOf};
@@ -111,7 +111,8 @@ struct Made<J: Job> {
 fn deal<J: Job>(line: &Line<J>, seats: u32, mut seat: Me<J>, passes: &mut Vec<Pass<J>>)
     requires seat { (seat.table_id ≡ line_table line.now) × (seat.me ≡ (view seats 0 0 phase.Idle 0 0 0 (known (line_key line.now)), [])) }
     requires room { (passes.old.items ≡ []) × (seats ≤ vec_capacity passes.old) }
-    ensures { passes.new.items ≡ fresh_passes (line_table line.now) (line_key line.now) seats }
+    ensures passes { passes.new.items ≡ fresh_passes (line_table line.now) (line_key line.now) seats }
+    ensures fresh { (vec_len passes.new ≡ seats) × AreFresh (line_table line.now) (line_key line.now) passes.new.items }
 {
     for number in 0..seats {
         let next = line.split(&mut seat);
@@ -169,6 +170,7 @@ impl<J: Job> Pipeline<J> {
         requires few { J.count job.now ≤ 2 ^ 32 }
         ensures key { IfOk result (λ r. (r.0.key.job.value ≡ job.now) × (r.0.key.state.value ≡ state) × (r.0.key.queue ≡ vec_len copies) × (r.0.key.seats ≡ seats)) }
         ensures passes { IfOk result (λ r. r.1.items ≡ fresh_passes r.0.table r.0.key seats) }
+        ensures fresh { IfOk result (λ r. (vec_len r.1 ≡ seats) × AreFresh r.0.table r.0.key r.1.items) }
         ensures err { IfErr result (λ e. (e.0.items ≡ copies.items) × (e.1 ≡ state)) }
     {
         let Ok(mut passes) = Vec::with_capacity(alloc, seats as usize) else {

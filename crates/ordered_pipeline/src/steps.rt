@@ -14,7 +14,7 @@ ghost use Rattle.ordered_pipeline.specs.Fold.{fold};
 ghost use Rattle.ordered_pipeline.specs.declared.view.View.{View};
 ghost use Rattle.ordered_pipeline.specs.declared.view.Known.{Known};
 ghost use Rattle.ordered_pipeline.specs.declared.rule.Key.{Key};
-ghost use Rattle.ordered_pipeline.specs.Machine.{Draws, Looks, Finishes, Advances, PassesOn, phased, drawn_view, over_view, started_view, waiting_view, dealing, dealt, joined, spent_view};
+ghost use Rattle.ordered_pipeline.specs.Machine.{Draws, Looks, Finishes, Advances, PassesOn, phased, drawn_view, over_view, started_view, waiting_view, MayDeal, dealing, dealt, joined, spent_view};
 ghost use Rattle.ordered_pipeline.specs.Plays.{drew, looked, finished, advanced, passed, Carries, HasBoth};
 ghost use Rattle.ordered_pipeline.specs.Rule.{Kept, first_view};
 
@@ -250,7 +250,7 @@ impl<J: Job> Line<J> {
 
     /// Splits a new pass off: one load.
     pub(crate) fn split(&self, seat: &mut Me<J>) -> Me<J>
-        requires { (seat.old.table_id ≡ line_table self.now) × (seat.old.me.0.phase ≡ Idle) × (seat.old.me.0.overs < seat.old.me.0.parts) × (seat.old.me.0.drawn ≡ 0) }
+        requires { (seat.old.table_id ≡ line_table self.now) × MayDeal seat.old.me.0 }
         ensures left { (seat.new.table_id ≡ seat.old.table_id) × (seat.new.me ≡ (dealing seat.old.me.0, seat.old.me.1)) }
         ensures right { (result.table_id ≡ seat.old.table_id) × (result.me ≡ (dealt seat.old.me.0, [])) }
     {

@@ -8,7 +8,7 @@ use Rattle.std.proofs.lemmas.List.FromFn.{get_or-map-range_with_len, length-map-
 use Rattle.std.proofs.lemmas.Grind.{common_steps}
 use Rattle.cell_blocks.specs.Blocks.{cell_blocks}
 use Rattle.fixed_q1.specs.declared.fault.LocalFault.{LocalFault}
-use Rattle.local_blocks.specs.Blocks.{LocalBlock}
+use Rattle.cell_blocks.specs.LocalBlocks.{LocalBlock}
 use Rattle.mesh_loop.specs.Setup.{MeshProblem}
 use Rattle.ordered_sum.specs.Chunks.{blocks_of, StandFor}
 

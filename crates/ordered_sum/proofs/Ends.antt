@@ -6,7 +6,7 @@ use Rattle.std.proofs.lemmas.List.FromFn.{length-map-range_with_len, get_or-map-
 use Rattle.serial_sum.specs.Rows.{FitsRows}
 use Rattle.serial_sum.specs.SerialSum.{SumIs}
 use Rattle.serial_sum.specs.Steps.{zero_state, answer_of, failure_fault, FaultIs, IsPartFor}
-use Rattle.serial_sum.specs.declared.part.CellPart.{CellPart}
+use Rattle.serial_sum.specs.Parts.{CellPart}
 use Rattle.serial_sum.specs.declared.sum.Failure.{Failure}
 use Rattle.serial_sum.specs.declared.sum.MatrixState.{MatrixState}
 use Rattle.serial_sum.proofs.StateLaws.{zero_fits, steps_give, fault_says}

@@ -2,4 +2,4 @@ pub mod Stretches
 pub mod Copied
 pub mod Steps
 pub mod Ends
-pub mod Hands
+pub mod Runs

@@ -11,11 +11,11 @@ use Rattle.std.proofs.lemmas.List.Sums.{fold-append}
 use Rattle.affine_constraints.specs.Lines.{AffineLine, lines_in}
 use Rattle.cell_blocks.specs.Blocks.{cell_blocks}
 use Rattle.cell_blocks.specs.Visited.{blocks_in}
-use Rattle.cell_sums.specs.Parts.{part_of_blocks, HoldsAll}
+use Rattle.block_sums.specs.Parts.{part_of_blocks, HoldsAll}
 use Rattle.fixed_q1.specs.declared.fault.LocalFault.{LocalFault}
-use Rattle.local_blocks.specs.Blocks.{LocalBlock}
+use Rattle.cell_blocks.specs.LocalBlocks.{LocalBlock}
 use Rattle.serial_sum.specs.Steps.{step_of}
-use Rattle.serial_sum.specs.declared.part.CellPart.{CellPart}
+use Rattle.serial_sum.specs.Parts.{CellPart}
 use Rattle.serial_sum.specs.declared.sum.MatrixState.{MatrixState}
 use Rattle.mesh_loop.specs.Setup.{MeshProblem, cells_of, pattern_of}
 use Rattle.mesh_loop.specs.Sum.{part_of, parts_of, IsWritten}
@@ -77,15 +77,10 @@ module _ {J : Type 0} (step : J → MatrixState → ℕ → MatrixState) (job : 
       let few : length (cells_of s) ≤ n * chunk = omega (arith, reach, length-range_with_len 0 (length s.given.forest.cells)) in
       chunks_after steps start n ∙ ap (state_after digits s start) (take_all (n * chunk) (cells_of s) few)
 
--- a pipeline that copied all items of its key's job ends so
-pub all_ended : {J : Type 0} (step : J → MatrixState → ℕ → MatrixState) (count : J → ℕ) (job key : J) (digits : ℕ) (s : MeshProblem) (chunk : ℕ) (start first end : MatrixState) (copied : ℕ) →
-    ((state : MatrixState) (k : ℕ) → step job state k ≡ state_after digits s state (chunk_cells s chunk k)) → count job ≡ chunks_of s chunk → 0 < chunk → key ≡ job → first ≡ start → copied ≡ count key →
-    end ≡ pipeline.fold step key first copied → end ≡ state_after digits s start (cells_of s)
-all_ended step count job key digits s chunk start first end copied steps many some same from all ends =
+-- a run over all items ends so
+pub all_ended : {J : Type 0} (step : J → MatrixState → ℕ → MatrixState) (job : J) (digits : ℕ) (s : MeshProblem) (chunk : ℕ) (start end : MatrixState) (count : ℕ) →
+    ((state : MatrixState) (k : ℕ) → step job state k ≡ state_after digits s state (chunk_cells s chunk k)) → count ≡ chunks_of s chunk → 0 < chunk → end ≡ pipeline.fold step job start count → end ≡ state_after digits s start (cells_of s)
+all_ended step job digits s chunk start end count steps many some ends =
     let n : ℕ = length s.given.forest.cells in
-    let is : copied ≡ chunks_of s chunk = all ∙ ap count same ∙ many in
     let P : ℕ → Type 0 = λ m. n ≤ m * chunk in
-    ends
-    ∙ ap (λ j. pipeline.fold step j first copied) same
-    ∙ ap (λ x. pipeline.fold step job x copied) from
-    ∙ all_after step job digits s chunk steps start copied (subst P (sym is) (chunks_reach n chunk some))
+    ends ∙ all_after step job digits s chunk steps start count (subst P (sym many) (chunks_reach n chunk some))

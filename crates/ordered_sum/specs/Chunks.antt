@@ -4,7 +4,7 @@ use Rattle.std.specs.Int.{div_ceil}
 use Rattle.std.specs.declared.result.Result.{Result}
 use Rattle.cell_blocks.specs.Blocks.{cell_blocks}
 use Rattle.fixed_q1.specs.declared.fault.LocalFault.{LocalFault}
-use Rattle.local_blocks.specs.Blocks.{LocalBlock}
+use Rattle.cell_blocks.specs.LocalBlocks.{LocalBlock}
 use Rattle.serial_sum.specs.Steps.{step_of}
 use Rattle.serial_sum.specs.declared.sum.MatrixState.{MatrixState}
 use Rattle.mesh_loop.specs.Setup.{MeshProblem, cells_of, pattern_of}

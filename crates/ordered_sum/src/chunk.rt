@@ -18,7 +18,7 @@ impl Model for ChunkCopy {
     ghost use Rattle.std.specs.Prelude.{List};
     ghost use Rattle.std.specs.declared.result.Result.{Result};
     ghost use Rattle.fixed_q1.specs.declared.fault.LocalFault.{LocalFault};
-    ghost use Rattle.local_blocks.specs.Blocks.{LocalBlock};
+    ghost use Rattle.cell_blocks.specs.LocalBlocks.{LocalBlock};
 
     ghost Value = { List (Result (List LocalBlock) LocalFault) };
 

@@ -5,8 +5,7 @@ ghost use Rattle.mesh_loop.specs.Setup.{pattern_of};
 ghost use Rattle.ordered_sum.specs.Chunks.{chunks_of, chunk_cells, StandFor, state_after};
 
 use crate::chunk::ChunkCopy;
-use block_sums::System;
-use cell_sums::add_cell_to_state;
+use block_sums::{System, add_cell_to_state};
 use mesh_loop::{CellScratch, Setup};
 use ordered_pipeline::{Job, Turn, Worked};
 use serial_sum::MatrixState;
@@ -86,7 +85,8 @@ impl Job for MatrixJob<'_> {
     ghost use Rattle.serial_sum.specs.Rows.{FitsRows};
     ghost use Rattle.mesh_loop.specs.Setup.{pattern_of};
     ghost use Rattle.ordered_sum.specs.Chunks.{chunks_of, chunk_cells, StandFor, state_after};
-    ghost use Rattle.ordered_sum.specs.Fitting.{state_fits};
+    ghost use Rattle.serial_sum.proofs.Fitting.{steps_fit};
+    ghost use Rattle.mesh_loop.specs.Sum.{parts_of};
 
     type Scratch = CellScratch;
 
@@ -108,7 +108,7 @@ impl Job for MatrixJob<'_> {
 
     ghost all_have_place = { λ j s. tt };
 
-    ghost still_fits = { λ j state k fits. state_fits j.digits j.setup.now state (chunk_cells j.setup.now j.chunk k) fits };
+    ghost still_fits = { λ j state k fits. steps_fit j.digits (pattern_of j.setup.now) (parts_of j.setup.now (chunk_cells j.setup.now j.chunk k)) state fits };
 
     fn items(&self) -> u64 {
         u64::from(self.setup.cells().div_ceil(self.chunk))

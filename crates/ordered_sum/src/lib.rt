@@ -2,12 +2,12 @@
 //! parallel, and one chunk after another is added to the rows in the order of the cells, by whoever finishes the
 //! chunk whose turn it is. After `WorkStream::run` of deal.II (Turcksin, Kronbichler, Bangerth, ACM TOMS 43, 2016).
 //!
-//! [`MatrixJob`] is what the pipeline runs, [`ChunkCopy`] its copy object, and [`assemble_ordered`] the driver.
+//! [`MatrixJob`] is what the pipeline runs, [`ChunkCopy`] its copy object, and [`assemble_ordered`] runs it.
 #![tactic(auto)]
 
 mod chunk;
-mod crew;
 mod job;
+mod objects;
 mod ordered;
 
 pub use chunk::ChunkCopy;

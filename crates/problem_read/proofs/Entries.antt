@@ -1,5 +1,5 @@
 -- What one more line adds.
-use Rattle.std.proofs.Common.{◌≡◌, ◌∙◌, sym, ap, refl, ℕ, List, Bool, true, false, length, drop, inl, inr}
+use Rattle.std.proofs.Common.{◌≡◌, ◌∙◌, sym, ap, refl, ℕ, List, [], ◌∷◌, ◌++◌, Bool, true, false, length, drop, inl, inr}
 use Rattle.std.specs.Prelude.{ℤ, Ok, Err, OnOk, IfErr, not, nat_lt, is_some}
 use Rattle.std.specs.declared.option.Option.{Option}
 use Rattle.std.specs.declared.result.Result.{Result}
@@ -12,9 +12,9 @@ use Rattle.problem_read.specs.declared.fault.ProblemKind.{ProblemKind}
 use Rattle.problem_read.specs.declared.fault.ProblemKind.TheVariants as kinds
 use Rattle.problem_read.specs.declared.keyword.Keyword.{Keyword}
 use Rattle.problem_read.specs.declared.keyword.Keyword.TheVariants as keywords
-use Rattle.problem_read.specs.Entries.{Tie, Entry, ProblemParts, diffusion, source, robin, dirichlet, penalty, refine, constraint}
+use Rattle.problem_read.specs.Entries.{Tie, Entry, ProblemParts, diffusion, source, robin, dirichlet, penalty, refine, constraint, subdomain}
 use Rattle.problem_read.specs.Shapes.{keyword_at}
-use Rattle.problem_read.specs.EntryLine.{value_at, setting_of, two_settings_of, tie_at, numbers_of, is_listed, checked, entry_behind}
+use Rattle.problem_read.specs.EntryLine.{value_at, setting_of, two_settings_of, two_ids_of, tie_at, numbers_of, is_listed, checked, entry_behind}
 use Rattle.problem_read.specs.Ties.{tie_fits, tie_line, AddsTie}
 use Rattle.problem_read.specs.Problem.{NoMemoryOr}
 use Rattle.problem_read.specs.Steps.{AddsEntry, IsLineFault, setting_line, AddsSetting, penalty_line, AddsPenalty, step_line, AddsStep}
@@ -32,36 +32,44 @@ by_keyword : (before : ProblemParts) (words : List (List ℕ)) (keyword : Keywor
 unfolding entry_behind
 by_keyword before words keyword h = ap (λ k. k >>= (λ word. numbers_of word words >>= checked before)) h
 
-pub of_diffusion : (before : ProblemParts) (words : List (List ℕ)) → keyword_at words ≡ Ok keywords.Diffusion →
-    entry_behind before words ≡ (setting_line (setting_of words) before.diffusion >>= (λ pair. Ok (diffusion pair)))
-of_diffusion before words h = by_keyword before words keywords.Diffusion h ∙ by (setting_of words)
+pub of_diffusion : (before : ProblemParts) (words : List (List ℕ)) (given : Result (ℕ × ℤ) ProblemKind) → given ≡ setting_of words → keyword_at words ≡ Ok keywords.Diffusion →
+    entry_behind before words ≡ (setting_line given before.diffusion >>= (λ pair. Ok (diffusion pair)))
+of_diffusion before words given is h = by_keyword before words keywords.Diffusion h ∙ ap (λ r. (r >>= (λ pair. Ok (diffusion pair))) >>= checked before) (sym is) ∙ by given
   where
     by : (r : Result (ℕ × ℤ) ProblemKind) → ((r >>= (λ pair. Ok (diffusion pair))) >>= checked before) ≡ (setting_line r before.diffusion >>= (λ pair. Ok (diffusion pair)))
     by (Ok pair) = tested diffusion pair (is_listed before.diffusion pair.0) true
     by (Err kind) = refl
 
-pub of_source : (before : ProblemParts) (words : List (List ℕ)) → keyword_at words ≡ Ok keywords.Source →
-    entry_behind before words ≡ (setting_line (setting_of words) before.source >>= (λ pair. Ok (source pair)))
-of_source before words h = by_keyword before words keywords.Source h ∙ by (setting_of words)
+pub of_source : (before : ProblemParts) (words : List (List ℕ)) (given : Result (ℕ × ℤ) ProblemKind) → given ≡ setting_of words → keyword_at words ≡ Ok keywords.Source →
+    entry_behind before words ≡ (setting_line given before.source >>= (λ pair. Ok (source pair)))
+of_source before words given is h = by_keyword before words keywords.Source h ∙ ap (λ r. (r >>= (λ pair. Ok (source pair))) >>= checked before) (sym is) ∙ by given
   where
     by : (r : Result (ℕ × ℤ) ProblemKind) → ((r >>= (λ pair. Ok (source pair))) >>= checked before) ≡ (setting_line r before.source >>= (λ pair. Ok (source pair)))
     by (Ok pair) = tested source pair (is_listed before.source pair.0) true
     by (Err kind) = refl
 
-pub of_robin : (before : ProblemParts) (words : List (List ℕ)) → keyword_at words ≡ Ok keywords.Robin →
-    entry_behind before words ≡ (setting_line (two_settings_of words) before.robin >>= (λ pair. Ok (robin pair)))
-of_robin before words h = by_keyword before words keywords.Robin h ∙ by (two_settings_of words)
+pub of_robin : (before : ProblemParts) (words : List (List ℕ)) (given : Result (ℕ × (ℤ × ℤ)) ProblemKind) → given ≡ two_settings_of words → keyword_at words ≡ Ok keywords.Robin →
+    entry_behind before words ≡ (setting_line given before.robin >>= (λ pair. Ok (robin pair)))
+of_robin before words given is h = by_keyword before words keywords.Robin h ∙ ap (λ r. (r >>= (λ pair. Ok (robin pair))) >>= checked before) (sym is) ∙ by given
   where
     by : (r : Result (ℕ × (ℤ × ℤ)) ProblemKind) → ((r >>= (λ pair. Ok (robin pair))) >>= checked before) ≡ (setting_line r before.robin >>= (λ pair. Ok (robin pair)))
     by (Ok pair) = tested robin pair (is_listed before.robin pair.0) true
     by (Err kind) = refl
 
-pub of_dirichlet : (before : ProblemParts) (words : List (List ℕ)) → keyword_at words ≡ Ok keywords.Dirichlet →
-    entry_behind before words ≡ (setting_line (setting_of words) before.dirichlet >>= (λ pair. Ok (dirichlet pair)))
-of_dirichlet before words h = by_keyword before words keywords.Dirichlet h ∙ by (setting_of words)
+pub of_dirichlet : (before : ProblemParts) (words : List (List ℕ)) (given : Result (ℕ × ℤ) ProblemKind) → given ≡ setting_of words → keyword_at words ≡ Ok keywords.Dirichlet →
+    entry_behind before words ≡ (setting_line given before.dirichlet >>= (λ pair. Ok (dirichlet pair)))
+of_dirichlet before words given is h = by_keyword before words keywords.Dirichlet h ∙ ap (λ r. (r >>= (λ pair. Ok (dirichlet pair))) >>= checked before) (sym is) ∙ by given
   where
     by : (r : Result (ℕ × ℤ) ProblemKind) → ((r >>= (λ pair. Ok (dirichlet pair))) >>= checked before) ≡ (setting_line r before.dirichlet >>= (λ pair. Ok (dirichlet pair)))
     by (Ok pair) = tested dirichlet pair (is_listed before.dirichlet pair.0) true
+    by (Err kind) = refl
+
+pub of_subdomain : (before : ProblemParts) (words : List (List ℕ)) (given : Result (ℕ × ℕ) ProblemKind) → given ≡ two_ids_of words → keyword_at words ≡ Ok keywords.Subdomain →
+    entry_behind before words ≡ (setting_line given before.subdomain >>= (λ pair. Ok (subdomain pair)))
+of_subdomain before words given is h = by_keyword before words keywords.Subdomain h ∙ ap (λ r. (r >>= (λ pair. Ok (subdomain pair))) >>= checked before) (sym is) ∙ by given
+  where
+    by : (r : Result (ℕ × ℕ) ProblemKind) → ((r >>= (λ pair. Ok (subdomain pair))) >>= checked before) ≡ (setting_line r before.subdomain >>= (λ pair. Ok (subdomain pair)))
+    by (Ok pair) = tested subdomain pair (is_listed before.subdomain pair.0) true
     by (Err kind) = refl
 
 pub of_penalty : (before : ProblemParts) (words : List (List ℕ)) → keyword_at words ≡ Ok keywords.Penalty →
@@ -112,40 +120,63 @@ pub errs_as : {A : Type 0} (given : Result A ProblemKind) (con : A → Entry) (a
 errs_as given con all number (Ok u) is found = found
 errs_as given con all number (Err fault) is found = fails_as given con all number fault is found
 
-pub adds_diffusion : (before now : ProblemParts) (words : List (List ℕ)) (list : List (ℕ × ℤ)) → keyword_at words ≡ Ok keywords.Diffusion → now ≡ record before { diffusion = list } →
-    AddsSetting (setting_of words) before.diffusion list → AddsEntry before words now
-adds_diffusion before now words list h is adds =
+read_as : {A : Type 0} (number : ℕ) (given : Result A ProblemKind) (value : A) → at_line number given ≡ Ok value → given ≡ Ok value
+read_as number (Ok x) value h = cc
+read_as number (Err kind) value h = cc
+
+-- a line sets a pair whose id isn't listed
+pub adds_setting : {V : Type 0} (given : Result (ℕ × V) ProblemKind) (before now : List (ℕ × V)) (number : ℕ) (pair : ℕ × V) → at_line number given ≡ Ok pair → is_listed before pair.0 ≡ false →
+    now ≡ before ++ pair ∷ [] → AddsSetting given before now
+adds_setting given before now number pair read new added =
+    record {
+      pair = pair;
+      is = ap (λ r. setting_line r before) (read_as number given pair read) ∙ ap (λ b. unless kinds.Repeated (not b) >>= (λ u. Ok pair)) new;
+      added = added;
+    }
+
+pub adds_diffusion : (before now : ProblemParts) (words : List (List ℕ)) (given : Result (ℕ × ℤ) ProblemKind) (list : List (ℕ × ℤ)) → given ≡ setting_of words → keyword_at words ≡ Ok keywords.Diffusion → now ≡ record before { diffusion = list } →
+    AddsSetting given before.diffusion list → AddsEntry before words now
+adds_diffusion before now words given list read h is adds =
     record {
       entry = diffusion adds.pair;
-      given = of_diffusion before words h ∙ ap (λ r. r >>= (λ pair. Ok (diffusion pair))) adds.is;
+      given = of_diffusion before words given read h ∙ ap (λ r. r >>= (λ pair. Ok (diffusion pair))) adds.is;
       added = is ∙ ap (λ pairs. record before { diffusion = pairs }) adds.added;
     }
 
-pub adds_source : (before now : ProblemParts) (words : List (List ℕ)) (list : List (ℕ × ℤ)) → keyword_at words ≡ Ok keywords.Source → now ≡ record before { source = list } →
-    AddsSetting (setting_of words) before.source list → AddsEntry before words now
-adds_source before now words list h is adds =
+pub adds_source : (before now : ProblemParts) (words : List (List ℕ)) (given : Result (ℕ × ℤ) ProblemKind) (list : List (ℕ × ℤ)) → given ≡ setting_of words → keyword_at words ≡ Ok keywords.Source → now ≡ record before { source = list } →
+    AddsSetting given before.source list → AddsEntry before words now
+adds_source before now words given list read h is adds =
     record {
       entry = source adds.pair;
-      given = of_source before words h ∙ ap (λ r. r >>= (λ pair. Ok (source pair))) adds.is;
+      given = of_source before words given read h ∙ ap (λ r. r >>= (λ pair. Ok (source pair))) adds.is;
       added = is ∙ ap (λ pairs. record before { source = pairs }) adds.added;
     }
 
-pub adds_robin : (before now : ProblemParts) (words : List (List ℕ)) (list : List (ℕ × (ℤ × ℤ))) → keyword_at words ≡ Ok keywords.Robin → now ≡ record before { robin = list } →
-    AddsSetting (two_settings_of words) before.robin list → AddsEntry before words now
-adds_robin before now words list h is adds =
+pub adds_robin : (before now : ProblemParts) (words : List (List ℕ)) (given : Result (ℕ × (ℤ × ℤ)) ProblemKind) (list : List (ℕ × (ℤ × ℤ))) → given ≡ two_settings_of words → keyword_at words ≡ Ok keywords.Robin → now ≡ record before { robin = list } →
+    AddsSetting given before.robin list → AddsEntry before words now
+adds_robin before now words given list read h is adds =
     record {
       entry = robin adds.pair;
-      given = of_robin before words h ∙ ap (λ r. r >>= (λ pair. Ok (robin pair))) adds.is;
+      given = of_robin before words given read h ∙ ap (λ r. r >>= (λ pair. Ok (robin pair))) adds.is;
       added = is ∙ ap (λ pairs. record before { robin = pairs }) adds.added;
     }
 
-pub adds_dirichlet : (before now : ProblemParts) (words : List (List ℕ)) (list : List (ℕ × ℤ)) → keyword_at words ≡ Ok keywords.Dirichlet → now ≡ record before { dirichlet = list } →
-    AddsSetting (setting_of words) before.dirichlet list → AddsEntry before words now
-adds_dirichlet before now words list h is adds =
+pub adds_dirichlet : (before now : ProblemParts) (words : List (List ℕ)) (given : Result (ℕ × ℤ) ProblemKind) (list : List (ℕ × ℤ)) → given ≡ setting_of words → keyword_at words ≡ Ok keywords.Dirichlet → now ≡ record before { dirichlet = list } →
+    AddsSetting given before.dirichlet list → AddsEntry before words now
+adds_dirichlet before now words given list read h is adds =
     record {
       entry = dirichlet adds.pair;
-      given = of_dirichlet before words h ∙ ap (λ r. r >>= (λ pair. Ok (dirichlet pair))) adds.is;
+      given = of_dirichlet before words given read h ∙ ap (λ r. r >>= (λ pair. Ok (dirichlet pair))) adds.is;
       added = is ∙ ap (λ pairs. record before { dirichlet = pairs }) adds.added;
+    }
+
+pub adds_subdomain : (before now : ProblemParts) (words : List (List ℕ)) (given : Result (ℕ × ℕ) ProblemKind) (list : List (ℕ × ℕ)) → given ≡ two_ids_of words → keyword_at words ≡ Ok keywords.Subdomain → now ≡ record before { subdomain = list } →
+    AddsSetting given before.subdomain list → AddsEntry before words now
+adds_subdomain before now words given list read h is adds =
+    record {
+      entry = subdomain adds.pair;
+      given = of_subdomain before words given read h ∙ ap (λ r. r >>= (λ pair. Ok (subdomain pair))) adds.is;
+      added = is ∙ ap (λ pairs. record before { subdomain = pairs }) adds.added;
     }
 
 pub adds_penalty : (before now : ProblemParts) (words : List (List ℕ)) (value : Option ℤ) → keyword_at words ≡ Ok keywords.Penalty → now ≡ record before { penalty = value } →

@@ -18,10 +18,10 @@ use Rattle.problem_read.specs.declared.fault.ProblemKind.TheVariants as kinds
 use Rattle.problem_read.specs.declared.keyword.Keyword.{Keyword}
 use Rattle.problem_read.specs.declared.keyword.Keyword.TheVariants as keywords
 use Rattle.problem_read.specs.declared.ties.TieTerm.{TieTerm}
-use Rattle.problem_read.specs.Entries.{Tie, Entry, ProblemParts, parts_of, diffusion, source, robin, dirichlet, penalty, refine, constraint}
+use Rattle.problem_read.specs.Entries.{Tie, Entry, ProblemParts, parts_of, diffusion, source, robin, dirichlet, penalty, refine, constraint, subdomain}
 use Rattle.problem_read.specs.Sums.{is_star, is_term, is_constant, within, term_with, term_of, constant_of, last_or, Sum, sum_with, sum_of}
 use Rattle.problem_read.specs.Shapes.{keyword_at}
-use Rattle.problem_read.specs.EntryLine.{value_at, setting_of, two_settings_of, tie_at, numbers_of, listed, repeats, has_room, checked, entry_behind}
+use Rattle.problem_read.specs.EntryLine.{value_at, setting_of, two_settings_of, two_ids_of, tie_at, numbers_of, listed, repeats, has_room, checked, entry_behind}
 use Rattle.problem_read.specs.Limits.{IsSmall, IsLight, IsTieWithin, AreWithinLimits}
 use Rattle.problem_read.specs.Steps.{with_entry}
 
@@ -34,6 +34,7 @@ Keeps (dirichlet pair) = IsSmall pair.1
 Keeps (penalty value) = IsSmall value
 Keeps (refine cells) = Unit {0}
 Keeps (constraint tie) = All IsLight tie.terms × IsSmall tie.constant
+Keeps (subdomain pair) = Unit {0}
 
 value_small : (words : List (List ℕ)) (place : ℕ) (value : ℤ) → value_at words place ≡ Ok value → IsSmall value
 value_small words place value h = number_within kinds.Number (2 ^ 31) words place value h
@@ -158,6 +159,7 @@ numbers_keep keywords.Dirichlet words entry h = through (setting_of words) diric
 numbers_keep keywords.Penalty words entry h = through (value_at words 1) penalty entry (value_small words 1) h
 numbers_keep keywords.Refine words entry h = through (or_fault kinds.Number (all_of id_of (drop 1 words))) refine entry (λ x e. tt) h
 numbers_keep keywords.Constraint words entry h = through (tie_at words) constraint entry (tie_small words) h
+numbers_keep keywords.Subdomain words entry h = through (two_ids_of words) subdomain entry (λ x e. tt) h
 
 -- what a line gives keeps its limits, and there is room for it
 pub line_keeps : (before : ProblemParts) (words : List (List ℕ)) (entry : Entry) → entry_behind before words ≡ Ok entry → Keeps entry × (has_room before entry ≡ true)
@@ -263,6 +265,17 @@ adds_keep parts (constraint tie) has keeps room =
       steps = has.steps;
       ties = one_more parts.ties tie (2 ^ 20) lines;
       each_tie = All-push (λ (t : Tie). IsTieWithin t.terms t.constant) parts.ties tie has.each_tie (record { few = fits (length tie.terms) 16 terms; light = keeps.0; small = keeps.1 });
+    }
+adds_keep parts (subdomain pair) has keeps room =
+    record {
+      diffusion = has.diffusion;
+      source = has.source;
+      robin = has.robin;
+      dirichlet = has.dirichlet;
+      penalty = has.penalty;
+      steps = has.steps;
+      ties = has.ties;
+      each_tie = has.each_tie;
     }
 
 pub no_lines_keep : AreWithinLimits (parts_of [])

@@ -15,7 +15,7 @@ use Rattle.fem_text.proofs.Values.{then_ok, passed}
 use Rattle.fem_text.proofs.ReadingEvery.{so_far_none, so_far_more, so_far_fails, so_far_every}
 use Rattle.problem_read.specs.declared.fault.ProblemKind.{ProblemKind}
 use Rattle.problem_read.specs.declared.fault.ProblemKind.TheVariants as kinds
-use Rattle.problem_read.specs.Entries.{Entry, ProblemParts, parts_of, diffusion, source, robin, dirichlet, penalty, refine, constraint, diffusion_of, source_of, robin_of, dirichlet_of, penalty_of, step_of, tie_of}
+use Rattle.problem_read.specs.Entries.{Entry, ProblemParts, parts_of, diffusion, source, robin, dirichlet, penalty, refine, constraint, subdomain, diffusion_of, source_of, robin_of, dirichlet_of, penalty_of, step_of, tie_of, subdomain_of}
 use Rattle.problem_read.specs.Shapes.{keyword_at}
 use Rattle.problem_read.specs.EntryLine.{numbers_of, repeats, has_room, checked, entry_behind, entry_line}
 use Rattle.problem_read.specs.Problem.{ProblemText, NoMemoryOr}
@@ -53,6 +53,7 @@ joined entries entry =
       penalty = slice_get (filter_map penalty_of entries ++ filter_map penalty_of (entry ∷ [])) 0;
       steps = filter_map step_of entries ++ filter_map step_of (entry ∷ []);
       ties = filter_map tie_of entries ++ filter_map tie_of (entry ∷ []);
+      subdomain = filter_map subdomain_of entries ++ filter_map subdomain_of (entry ∷ []);
     }
 
 join : (entries : List Entry) (entry : Entry) → joined entries entry ≡ parts_of (entries ++ entry ∷ [])
@@ -64,10 +65,11 @@ join entries entry =
     let p = sym (filter_map-append penalty_of entries (entry ∷ [])) in
     let t = sym (filter_map-append step_of entries (entry ∷ [])) in
     let c = sym (filter_map-append tie_of entries (entry ∷ [])) in
-    λ i. record { diffusion = d i; source = s i; robin = r i; dirichlet = b i; penalty = slice_get (p i) 0; steps = t i; ties = c i }
+    let o = sym (filter_map-append subdomain_of entries (entry ∷ [])) in
+    λ i. record { diffusion = d i; source = s i; robin = r i; dirichlet = b i; penalty = slice_get (p i) 0; steps = t i; ties = c i; subdomain = o i }
 
-same_parts : (x y : ProblemParts) → x.diffusion ≡ y.diffusion → x.source ≡ y.source → x.robin ≡ y.robin → x.dirichlet ≡ y.dirichlet → x.penalty ≡ y.penalty → x.steps ≡ y.steps → x.ties ≡ y.ties → x ≡ y
-same_parts x y d s r b p t c = λ i. record { diffusion = d i; source = s i; robin = r i; dirichlet = b i; penalty = p i; steps = t i; ties = c i }
+same_parts : (x y : ProblemParts) → x.diffusion ≡ y.diffusion → x.source ≡ y.source → x.robin ≡ y.robin → x.dirichlet ≡ y.dirichlet → x.penalty ≡ y.penalty → x.steps ≡ y.steps → x.ties ≡ y.ties → x.subdomain ≡ y.subdomain → x ≡ y
+same_parts x y d s r b p t c o = λ i. record { diffusion = d i; source = s i; robin = r i; dirichlet = b i; penalty = p i; steps = t i; ties = c i; subdomain = o i }
 
 -- a list that gets no more
 none : {A : Type 0} (xs : List A) → xs ≡ xs ++ []
@@ -76,25 +78,28 @@ none xs = sym (append-nil xs)
 by_entry : (entries : List Entry) (entry : Entry) → repeats (parts_of entries) entry ≡ false → with_entry (parts_of entries) entry ≡ joined entries entry
 by_entry entries (diffusion pair) new =
     let p = parts_of entries in
-    same_parts (with_entry p (diffusion pair)) (joined entries (diffusion pair)) refl (none p.source) (none p.robin) (none p.dirichlet) (ap (λ xs. slice_get xs 0) (none (filter_map penalty_of entries))) (none p.steps) (none p.ties)
+    same_parts (with_entry p (diffusion pair)) (joined entries (diffusion pair)) refl (none p.source) (none p.robin) (none p.dirichlet) (ap (λ xs. slice_get xs 0) (none (filter_map penalty_of entries))) (none p.steps) (none p.ties) (none p.subdomain)
 by_entry entries (source pair) new =
     let p = parts_of entries in
-    same_parts (with_entry p (source pair)) (joined entries (source pair)) (none p.diffusion) refl (none p.robin) (none p.dirichlet) (ap (λ xs. slice_get xs 0) (none (filter_map penalty_of entries))) (none p.steps) (none p.ties)
+    same_parts (with_entry p (source pair)) (joined entries (source pair)) (none p.diffusion) refl (none p.robin) (none p.dirichlet) (ap (λ xs. slice_get xs 0) (none (filter_map penalty_of entries))) (none p.steps) (none p.ties) (none p.subdomain)
 by_entry entries (robin pair) new =
     let p = parts_of entries in
-    same_parts (with_entry p (robin pair)) (joined entries (robin pair)) (none p.diffusion) (none p.source) refl (none p.dirichlet) (ap (λ xs. slice_get xs 0) (none (filter_map penalty_of entries))) (none p.steps) (none p.ties)
+    same_parts (with_entry p (robin pair)) (joined entries (robin pair)) (none p.diffusion) (none p.source) refl (none p.dirichlet) (ap (λ xs. slice_get xs 0) (none (filter_map penalty_of entries))) (none p.steps) (none p.ties) (none p.subdomain)
 by_entry entries (dirichlet pair) new =
     let p = parts_of entries in
-    same_parts (with_entry p (dirichlet pair)) (joined entries (dirichlet pair)) (none p.diffusion) (none p.source) (none p.robin) refl (ap (λ xs. slice_get xs 0) (none (filter_map penalty_of entries))) (none p.steps) (none p.ties)
+    same_parts (with_entry p (dirichlet pair)) (joined entries (dirichlet pair)) (none p.diffusion) (none p.source) (none p.robin) refl (ap (λ xs. slice_get xs 0) (none (filter_map penalty_of entries))) (none p.steps) (none p.ties) (none p.subdomain)
 by_entry entries (penalty value) new =
     let p = parts_of entries in
-    same_parts (with_entry p (penalty value)) (joined entries (penalty value)) (none p.diffusion) (none p.source) (none p.robin) (none p.dirichlet) (last_first (filter_map penalty_of entries) value new) (none p.steps) (none p.ties)
+    same_parts (with_entry p (penalty value)) (joined entries (penalty value)) (none p.diffusion) (none p.source) (none p.robin) (none p.dirichlet) (last_first (filter_map penalty_of entries) value new) (none p.steps) (none p.ties) (none p.subdomain)
 by_entry entries (refine cells) new =
     let p = parts_of entries in
-    same_parts (with_entry p (refine cells)) (joined entries (refine cells)) (none p.diffusion) (none p.source) (none p.robin) (none p.dirichlet) (ap (λ xs. slice_get xs 0) (none (filter_map penalty_of entries))) refl (none p.ties)
+    same_parts (with_entry p (refine cells)) (joined entries (refine cells)) (none p.diffusion) (none p.source) (none p.robin) (none p.dirichlet) (ap (λ xs. slice_get xs 0) (none (filter_map penalty_of entries))) refl (none p.ties) (none p.subdomain)
 by_entry entries (constraint tie) new =
     let p = parts_of entries in
-    same_parts (with_entry p (constraint tie)) (joined entries (constraint tie)) (none p.diffusion) (none p.source) (none p.robin) (none p.dirichlet) (ap (λ xs. slice_get xs 0) (none (filter_map penalty_of entries))) (none p.steps) refl
+    same_parts (with_entry p (constraint tie)) (joined entries (constraint tie)) (none p.diffusion) (none p.source) (none p.robin) (none p.dirichlet) (ap (λ xs. slice_get xs 0) (none (filter_map penalty_of entries))) (none p.steps) refl (none p.subdomain)
+by_entry entries (subdomain pair) new =
+    let p = parts_of entries in
+    same_parts (with_entry p (subdomain pair)) (joined entries (subdomain pair)) (none p.diffusion) (none p.source) (none p.robin) (none p.dirichlet) (ap (λ xs. slice_get xs 0) (none (filter_map penalty_of entries))) (none p.steps) (none p.ties) refl
 
 pub holds_none : (lines rest : Lines) (parts : ProblemParts) → rest ≡ lines → parts ≡ parts_of [] → HoldsSoFar lines parts rest
 holds_none lines rest parts new empty =

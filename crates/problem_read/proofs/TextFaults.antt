@@ -10,10 +10,10 @@ use Rattle.problem_read.specs.declared.fault.ProblemKind.{ProblemKind}
 use Rattle.problem_read.specs.declared.fault.ProblemKind.TheVariants as kinds
 use Rattle.problem_read.specs.declared.keyword.Keyword.{Keyword}
 use Rattle.problem_read.specs.declared.keyword.Keyword.TheVariants as keywords
-use Rattle.problem_read.specs.Entries.{Entry, ProblemParts, parts_of, diffusion, source, robin, dirichlet, penalty, refine, constraint}
+use Rattle.problem_read.specs.Entries.{Entry, ProblemParts, parts_of, diffusion, source, robin, dirichlet, penalty, refine, constraint, subdomain}
 use Rattle.problem_read.specs.Sums.{sum_of}
 use Rattle.problem_read.specs.Shapes.{keyword_of, has_shape, keyword_at}
-use Rattle.problem_read.specs.EntryLine.{value_at, setting_of, two_settings_of, tie_at, numbers_of, repeats, has_room, checked, entry_behind, entry_line}
+use Rattle.problem_read.specs.EntryLine.{value_at, setting_of, two_settings_of, two_ids_of, tie_at, numbers_of, repeats, has_room, checked, entry_behind, entry_line}
 use Rattle.problem_read.specs.Problem.{ProblemFaultAt}
 
 -- it isn't that memory ran out
@@ -40,6 +40,10 @@ of_two words =
     bind _ _ _ (of_id _ kinds.Number words 1 (λ h. cc)) (λ id.
     bind _ _ _ (of_value words 2) (λ first. bind _ _ _ (of_value words 3) (λ second. good _ (id, (first, second)))))
 
+of_ids : (words : List (List ℕ)) → OfText (two_ids_of words)
+unfolding two_ids_of
+of_ids words = bind _ _ _ (of_id _ kinds.Number words 1 (λ h. cc)) (λ id. bind _ _ _ (of_id _ kinds.Number words 2 (λ h. cc)) (λ other. good _ (id, other)))
+
 of_tie : (words : List (List ℕ)) → OfText (tie_at words)
 unfolding tie_at
 of_tie words =
@@ -54,6 +58,7 @@ of_numbers keywords.Dirichlet words = bind _ _ _ (of_setting words) (λ pair. go
 of_numbers keywords.Penalty words = bind _ _ _ (of_value words 1) (λ value. good _ (penalty value))
 of_numbers keywords.Refine words = bind _ _ _ (of_option _ kinds.Number (all_of id_of (drop 1 words)) (λ h. cc)) (λ cells. good _ (refine cells))
 of_numbers keywords.Constraint words = bind _ _ _ (of_tie words) (λ tie. good _ (constraint tie))
+of_numbers keywords.Subdomain words = bind _ _ _ (of_ids words) (λ pair. good _ (subdomain pair))
 
 of_checked : (before : ProblemParts) (entry : Entry) → OfText (checked before entry)
 of_checked before entry =

@@ -19,6 +19,7 @@ pub data Entry : Type 0 where
   penalty : ℤ → Entry
   refine : List ℕ → Entry
   constraint : Tie → Entry
+  subdomain : ℕ × ℕ → Entry
 
 abbrev pub diffusion_of : Entry → Option (ℕ × ℤ)
 diffusion_of (diffusion pair) = Some pair
@@ -48,6 +49,10 @@ abbrev pub tie_of : Entry → Option Tie
 tie_of (constraint tie) = Some tie
 tie_of _ = None
 
+abbrev pub subdomain_of : Entry → Option (ℕ × ℕ)
+subdomain_of (subdomain pair) = Some pair
+subdomain_of _ = None
+
 -- what a text says, word by word, each in the order of the lines
 pub record ProblemParts : Type 0 where
   pub diffusion : List (ℕ × ℤ)
@@ -57,6 +62,7 @@ pub record ProblemParts : Type 0 where
   pub penalty : Option ℤ
   pub steps : List (List ℕ)
   pub ties : List Tie
+  pub subdomain : List (ℕ × ℕ)
 
 -- the parts that these lines make
 abbrev pub parts_of : List Entry → ProblemParts
@@ -69,4 +75,5 @@ parts_of entries =
       penalty = slice_get (filter_map penalty_of entries) 0;
       steps = filter_map step_of entries;
       ties = filter_map tie_of entries;
+      subdomain = filter_map subdomain_of entries;
     }

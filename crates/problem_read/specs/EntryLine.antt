@@ -9,7 +9,7 @@ use Rattle.problem_read.specs.declared.fault.ProblemKind.{ProblemKind}
 use Rattle.problem_read.specs.declared.fault.ProblemKind.TheVariants as kinds
 use Rattle.problem_read.specs.declared.keyword.Keyword.{Keyword}
 use Rattle.problem_read.specs.declared.keyword.Keyword.TheVariants as keywords
-use Rattle.problem_read.specs.Entries.{Tie, Entry, ProblemParts, parts_of, diffusion, source, robin, dirichlet, penalty, refine, constraint}
+use Rattle.problem_read.specs.Entries.{Tie, Entry, ProblemParts, parts_of, diffusion, source, robin, dirichlet, penalty, refine, constraint, subdomain}
 use Rattle.problem_read.specs.Sums.{sum_of}
 use Rattle.problem_read.specs.Shapes.{keyword_at}
 
@@ -32,6 +32,13 @@ two_settings_of words = do
   second ← value_at words 3
   Ok (id, (first, second))
 
+-- a material, and the subdomain that it belongs to
+unfoldable pub two_ids_of : List (List ℕ) → Result (ℕ × ℕ) ProblemKind
+two_ids_of words = do
+  id ← id_at kinds.Number words 1
+  other ← id_at kinds.Number words 2
+  Ok (id, other)
+
 -- a constraint, by its ids and numbers
 unfoldable pub tie_at : List (List ℕ) → Result Tie ProblemKind
 tie_at words = do
@@ -48,6 +55,7 @@ numbers_of keywords.Dirichlet words = setting_of words >>= (λ pair. Ok (dirichl
 numbers_of keywords.Penalty words = value_at words 1 >>= (λ value. Ok (penalty value))
 numbers_of keywords.Refine words = or_fault kinds.Number (all_of id_of (drop 1 words)) >>= (λ cells. Ok (refine cells))
 numbers_of keywords.Constraint words = tie_at words >>= (λ tie. Ok (constraint tie))
+numbers_of keywords.Subdomain words = two_ids_of words >>= (λ pair. Ok (subdomain pair))
 
 -- what is listed under an id
 abbrev pub listed : {V : Type 0} → List (ℕ × V) → ℕ → Option V
@@ -65,6 +73,7 @@ repeats before (dirichlet pair) = is_listed before.dirichlet pair.0
 repeats before (penalty value) = is_some before.penalty
 repeats before (refine cells) = false
 repeats before (constraint tie) = false
+repeats before (subdomain pair) = is_listed before.subdomain pair.0
 
 -- there are at most 32 steps, 2^20 constraints, and 16 terms in each
 abbrev pub has_room : ProblemParts → Entry → Bool

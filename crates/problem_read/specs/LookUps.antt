@@ -24,3 +24,7 @@ dirichlet_on parts id = listed parts.dirichlet id
 -- the weight of the jump term, in ticks; 0 where no line has it
 abbrev pub penalty_in : ProblemParts → ℤ
 penalty_in parts = unwrap_or parts.penalty (pos 0)
+
+-- the subdomain that a material belongs to; 0 where no line has it
+abbrev pub subdomain_on : ProblemParts → ℕ → ℕ
+subdomain_on parts material = unwrap_or (listed parts.subdomain material) 0

@@ -20,6 +20,7 @@ keyword_of word =
     else if bytes_eq word (codes "penalty") then Some keywords.Penalty
     else if bytes_eq word (codes "refine") then Some keywords.Refine
     else if bytes_eq word (codes "constraint") then Some keywords.Constraint
+    else if bytes_eq word (codes "subdomain") then Some keywords.Subdomain
     else None
 
 -- the third word is `=`, and a sum stands behind it
@@ -36,6 +37,7 @@ has_shape keywords.Dirichlet words = length words == 3
 has_shape keywords.Penalty words = length words == 2
 has_shape keywords.Refine words = nat_lt 1 (length words)
 has_shape keywords.Constraint words = is_equation words
+has_shape keywords.Subdomain words = length words == 3
 
 -- the first word of a line that has its shape
 unfoldable pub keyword_at : List (List ℕ) → Result Keyword ProblemKind

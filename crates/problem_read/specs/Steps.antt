@@ -9,7 +9,7 @@ use Rattle.problem_read.specs.declared.fault.ProblemKind.{ProblemKind}
 use Rattle.problem_read.specs.declared.fault.ProblemKind.TheVariants as kinds
 use Rattle.fem_fixed.specs.Numbers.{id_of}
 use Rattle.fem_text.specs.Words.{◌>>=◌, or_fault, unless, all_of}
-use Rattle.problem_read.specs.Entries.{Entry, ProblemParts, parts_of, diffusion, source, robin, dirichlet, penalty, refine, constraint}
+use Rattle.problem_read.specs.Entries.{Entry, ProblemParts, parts_of, diffusion, source, robin, dirichlet, penalty, refine, constraint, subdomain}
 use Rattle.problem_read.specs.EntryLine.{value_at, is_listed, entry_behind, entry_line}
 use Rattle.problem_read.specs.Limits.{AreWithinLimits}
 
@@ -22,6 +22,7 @@ with_entry parts (dirichlet pair) = record parts { dirichlet = parts.dirichlet +
 with_entry parts (penalty value) = record parts { penalty = Some value }
 with_entry parts (refine cells) = record parts { steps = parts.steps ++ cells ∷ [] }
 with_entry parts (constraint tie) = record parts { ties = parts.ties ++ tie ∷ [] }
+with_entry parts (subdomain pair) = record parts { subdomain = parts.subdomain ++ pair ∷ [] }
 
 -- the line gives an entry, which is added
 pub record AddsEntry (before : ProblemParts) (words : List (List ℕ)) (now : ProblemParts) : Type 0 where

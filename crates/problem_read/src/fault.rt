@@ -4,7 +4,7 @@ use fem_text::TextFault;
 /// What is wrong with a problem text.
 #[derive(Clone, Copy, Debug, PartialEq, Eq)]
 pub enum ProblemKind {
-    /// The first word is none of the seven, or the line hasn't the shape of its word.
+    /// The first word is none of the eight, or the line hasn't the shape of its word.
     Word = 1,
     /// An id or a number isn't one, or is above its limit.
     Number = 2,

@@ -16,6 +16,7 @@ pub(crate) enum Keyword {
     Penalty,
     Refine,
     Constraint,
+    Subdomain,
 }
 
 /// The first word of a line that has the shape of such a line.
@@ -59,6 +60,9 @@ fn keyword_of(word: &[u8]) -> Option<Keyword>
     if word == b"constraint".as_slice() {
         return Some(Keyword::Constraint);
     }
+    if word == b"subdomain".as_slice() {
+        return Some(Keyword::Subdomain);
+    }
     None
 }
 
@@ -66,7 +70,9 @@ fn has_shape(keyword: Keyword, words: &LineWords) -> bool
     ensures { result ≡ has_shape keyword words.now }
 {
     match keyword {
-        Keyword::Diffusion | Keyword::Source | Keyword::Dirichlet => has_words(words, 3),
+        Keyword::Diffusion | Keyword::Source | Keyword::Dirichlet | Keyword::Subdomain => {
+            has_words(words, 3)
+        }
         Keyword::Robin => has_words(words, 4),
         Keyword::Penalty => has_words(words, 2),
         Keyword::Refine => words.word(1).is_some(),

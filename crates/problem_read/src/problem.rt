@@ -1,5 +1,5 @@
 ghost use Rattle.std.specs.Prelude.{◌≡◌, ◌<◌, ◌≤◌, ◌^◌, [], length, slice_index_or, unsigned_abs, IfSome};
-ghost use Rattle.problem_read.specs.LookUps.{diffusion_on, source_on, robin_on, dirichlet_on, penalty_in};
+ghost use Rattle.problem_read.specs.LookUps.{diffusion_on, source_on, robin_on, dirichlet_on, penalty_in, subdomain_on};
 ghost use Rattle.problem_read.specs.Limits.{IsTieWithin, AreWithinLimits};
 ghost use Rattle.problem_read.specs.Ties.{IsTie};
 
@@ -70,6 +70,13 @@ impl Problem {
         ensures small { unsigned_abs result ≤ 2 ^ 31 }
     {
         self.tables.penalty()
+    }
+
+    /// The id of the subdomain that a material belongs to; 0 where no line has it.
+    pub fn subdomain(&self, material: u32) -> u32
+        ensures { result ≡ subdomain_on self.now material }
+    {
+        self.tables.subdomain(material)
     }
 
     /// The number of refinement steps, at most 32.

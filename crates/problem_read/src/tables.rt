@@ -6,8 +6,8 @@ ghost use Rattle.fem_text.specs.Lines.{words_of};
 ghost use Rattle.problem_read.specs.declared.fault.ProblemKind.{ProblemKind};
 ghost use Rattle.problem_read.specs.Entries.{parts_of};
 ghost use Rattle.problem_read.specs.Shapes.{keyword_at};
-ghost use Rattle.problem_read.specs.EntryLine.{is_listed, setting_of, two_settings_of, entry_behind};
-ghost use Rattle.problem_read.specs.LookUps.{diffusion_on, source_on, robin_on, dirichlet_on, penalty_in};
+ghost use Rattle.problem_read.specs.EntryLine.{is_listed, setting_of, two_settings_of, two_ids_of, entry_behind};
+ghost use Rattle.problem_read.specs.LookUps.{diffusion_on, source_on, robin_on, dirichlet_on, penalty_in, subdomain_on};
 ghost use Rattle.problem_read.specs.Ties.{IsTie};
 ghost use Rattle.problem_read.specs.Problem.{NoMemoryOr};
 ghost use Rattle.problem_read.specs.Steps.{AddsEntry, AddsSetting, AddsPenalty, AddsStep, IsLineFault, setting_line, penalty_line, step_line};
@@ -36,6 +36,7 @@ pub(crate) struct Tables {
     penalty: Option<i64>,
     steps: Vec<Vec<u32>>,
     ties: Ties,
+    subdomain: IndexMap<u32, u32>,
 }
 
 impl Model for Tables {
@@ -54,6 +55,7 @@ impl Model for Tables {
       penalty = tables.penalty;
       steps = steps_in tables.steps.items;
       ties = tables.ties;
+      subdomain = tables.subdomain.entries;
     } };
 
     ghost invariant = { λ tables. length tables.steps.items ≤ 32 };
@@ -71,6 +73,7 @@ impl Tables {
             penalty: None,
             steps: Vec::new(alloc),
             ties: Ties::new(alloc),
+            subdomain: IndexMap::new(alloc),
         }
     }
 
@@ -102,6 +105,12 @@ impl Tables {
         ensures { result ≡ penalty_in self.now }
     {
         self.penalty.unwrap_or(0)
+    }
+
+    pub(crate) fn subdomain(&self, material: u32) -> u32
+        ensures { result ≡ subdomain_on self.now material }
+    {
+        self.subdomain.get(&material).copied().unwrap_or(0)
     }
 
     pub(crate) fn steps(&self) -> u32
@@ -153,46 +162,32 @@ impl Tables {
         ensures err { IfErr result (λ fault. NoMemoryOr fault (IsLineFault (entry_behind self.old words.now) line.now.number fault)) }
     {
         match keyword {
-            Keyword::Diffusion => add_setting(&mut self.diffusion, line, words),
-            Keyword::Source => add_setting(&mut self.source, line, words),
-            Keyword::Robin => add_two_settings(&mut self.robin, line, words),
-            Keyword::Dirichlet => add_setting(&mut self.dirichlet, line, words),
+            Keyword::Diffusion => add_setting(&mut self.diffusion, setting_of(words), line),
+            Keyword::Source => add_setting(&mut self.source, setting_of(words), line),
+            Keyword::Robin => add_setting(&mut self.robin, two_settings_of(words), line),
+            Keyword::Dirichlet => add_setting(&mut self.dirichlet, setting_of(words), line),
             Keyword::Penalty => add_penalty(&mut self.penalty, line, words),
             Keyword::Refine => add_step(alloc, &mut self.steps, line, words),
             Keyword::Constraint => self.ties.add(line, words),
+            Keyword::Subdomain => add_setting(&mut self.subdomain, two_ids_of(words), line),
         }
     }
 }
 
-fn add_setting(
-    map: &mut IndexMap<u32, i64>,
+// Lists what a line sets for an id, where no earlier line sets it.
+fn add_setting<V: Copy + Drop>(
+    map: &mut IndexMap<u32, V>,
+    given: Result<(u32, V), ProblemKind>,
     line: &TextLine,
-    words: &LineWords,
 ) -> Result<(), ProblemFault>
-    ensures ok { OnOk result (AddsSetting (setting_of words.now) map.old.entries map.new.entries) }
-    ensures err { IfErr result (λ fault. NoMemoryOr fault (IsLineFault (setting_line (setting_of words.now) map.old.entries) line.now.number fault)) }
+    ensures ok { OnOk result (AddsSetting given map.old.entries map.new.entries) }
+    ensures err { IfErr result (λ fault. NoMemoryOr fault (IsLineFault (setting_line given map.old.entries) line.now.number fault)) }
 {
-    let (id, value) = at_line(setting_of(words), line)?;
+    let (id, value) = at_line(given, line)?;
     if map.get(&id).is_some() {
         return at_line(Err(ProblemKind::Repeated), line);
     }
     insert_new(map, id, value)?;
-    Ok(())
-}
-
-fn add_two_settings(
-    map: &mut IndexMap<u32, (i64, i64)>,
-    line: &TextLine,
-    words: &LineWords,
-) -> Result<(), ProblemFault>
-    ensures ok { OnOk result (AddsSetting (two_settings_of words.now) map.old.entries map.new.entries) }
-    ensures err { IfErr result (λ fault. NoMemoryOr fault (IsLineFault (setting_line (two_settings_of words.now) map.old.entries) line.now.number fault)) }
-{
-    let (boundary, values) = at_line(two_settings_of(words), line)?;
-    if map.get(&boundary).is_some() {
-        return at_line(Err(ProblemKind::Repeated), line);
-    }
-    insert_new(map, boundary, values)?;
     Ok(())
 }
 
@@ -222,6 +217,15 @@ fn two_settings_of(words: &LineWords) -> Result<(u32, (i64, i64)), ProblemKind>
     let first = number_at(ProblemKind::Number, VALUE_LIMIT, words, 2)?;
     let second = number_at(ProblemKind::Number, VALUE_LIMIT, words, 3)?;
     Ok((id, (first, second)))
+}
+
+#[tactic(auto, unfolding(crate::specs::EntryLine::two_ids_of))]
+fn two_ids_of(words: &LineWords) -> Result<(u32, u32), ProblemKind>
+    ensures { result ≡ two_ids_of words.now }
+{
+    let id = id_at(ProblemKind::Number, words, 1)?;
+    let other = id_at(ProblemKind::Number, words, 2)?;
+    Ok((id, other))
 }
 
 fn add_penalty(

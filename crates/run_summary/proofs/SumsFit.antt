@@ -10,7 +10,7 @@ use Rattle.fem_fixed.specs.KeptSum.{added}
 use Rattle.serial_sum.specs.Columns.{columns_at}
 use Rattle.serial_sum.specs.Rows.{no_row, goes_to}
 use Rattle.serial_sum.specs.SerialSum.{SumIs, contributions, next_sum, sum_of, sum_or_zero, sum_row, sum_rows}
-use Rattle.serial_sum.specs.declared.part.CellPart.{CellPart}
+use Rattle.serial_sum.specs.Parts.{CellPart}
 use Rattle.serial_sum.specs.declared.part.Contribution.{Contribution}
 use Rattle.serial_sum.specs.declared.part.Target.{Target}
 use Rattle.serial_sum.specs.declared.part.Target.TheVariants.{Column, RightSide}

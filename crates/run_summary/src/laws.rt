@@ -3,7 +3,7 @@ ghost use Rattle.std.specs.List.{concat};
 ghost use Rattle.matrix_market.specs.Entries.{right_sides, values_of};
 ghost use Rattle.run_summary.specs.Summary.{IsSummable};
 ghost use Rattle.serial_sum.specs.SerialSum.{SumIs};
-ghost use Rattle.serial_sum.specs.declared.part.CellPart.{CellPart};
+ghost use Rattle.serial_sum.specs.Parts.{CellPart};
 ghost use Rattle.sparsity.specs.declared.rows.Row.{Row};
 
 /// Each serial sum over a pattern of at most 33,554,432 pairs has a summary.

@@ -1,5 +1,5 @@
 // A store of long texts, and one without memory.
-ghost use Rattle.std.specs.Prelude.{None};
+ghost use Rattle.std.specs.Prelude.{◌+◌, ◌≤◌, length, None, IfOk};
 
 use fem_text::{Counts, Store, StoreFault};
 use std::alloc::{AllocError, Global};
@@ -19,7 +19,9 @@ impl Blanks {
 }
 
 // One blank more than the limit.
-fn long_text(alloc: Global, limit: u64) -> Result<Vec<u8>, AllocError> {
+fn long_text(alloc: Global, limit: u64) -> Result<Vec<u8>, AllocError>
+    ensures { IfOk result (λ text. length text.items ≤ limit + 1) }
+{
     let size = limit.saturating_add(1) as usize;
     let mut text = Vec::with_capacity(alloc, size.saturating_add(4096))?;
     for _ in 0..limit / 4096 + 1 {

@@ -1,12 +1,6 @@
 -- Each step is an event of the machine.
-use Rattle.std.proofs.Common.{◌≡◌, ◌≢◌, ℕ, ◌^◌, ◌<◌, List, [], ◌∷◌, length, sym, refl, ap, ◌∙◌, subst, arith, Option, None, Some, get_or, set, get_or-set_same}
-use Rattle.std.specs.Int.{bit_at}
-use lib.ListN.{get_elem?}
-use mathlib.Core.Option.{some}
-use Rattle.atomic_table.specs.Table.{State}
-use Rattle.scratch_pool.specs.declared.view.View.{View}
+use Rattle.std.proofs.Common.{◌≡◌, ℕ, ◌<◌, List, length, sym, refl, ap, subst, arith, get_or, set, get_or-set_same}
 use Rattle.scratch_pool.specs.Machine.{BitBecomes}
-use Rattle.scratch_pool.specs.Rule.{Pooled}
 use Rattle.scratch_pool.specs.Laws.{TriesAreEvents, ReturnsAreEvents, SplitsAreEvents, JoinsAreEvents}
 use Rattle.scratch_pool.proofs.Moves.{is_out}
 use Rattle.scratch_pool.proofs.Masks.{cleared, is_set}

@@ -1,6 +1,6 @@
 -- A pool as a machine: which objects are at home, and what each pass holds and has found out. Each event is
 -- one atomic step of one caller.
-use Rattle.std.specs.Prelude.{◌≡◌, ◌≢◌, ℕ, ◌+◌, ◌-◌, ◌<◌, List, [], ◌∷◌, ◌++◌, slice_set, if◌then◌else◌, ◌==◌, Option, None, Some, replicate}
+use Rattle.std.specs.Prelude.{◌≡◌, ◌≢◌, ℕ, ◌+◌, ◌-◌, ◌<◌, ◌⊎◌, List, [], ◌∷◌, ◌++◌, slice_set, if◌then◌else◌, ◌==◌, Option, None, Some, replicate}
 use Rattle.std.specs.Int.{bit_at}
 use mathlib.Core.Option.{some}
 use lib.ListN.{get_elem?}
@@ -27,6 +27,29 @@ holding k pass = is_object k pass.holds
 -- each object is at home, or exactly one pass holds it
 abbrev pub IsSound : ℕ → Machine → Type 0
 IsSound objects m = (k : ℕ) → k < objects → total (holding k) m.passes + bit_at m.bits k ≡ 1
+
+-- the pass p holds object k
+abbrev pub HoldsAt : ℕ → ℕ → Machine → Type 0
+HoldsAt k p m = (v : View) × (get_elem? m.passes p ≡ some v) × (v.holds ≡ Some k)
+
+-- the object is at home, and no pass holds it
+abbrev pub IsFree : ℕ → Machine → Type 0
+IsFree k m = (bit_at m.bits k ≡ 1) × ((p : ℕ) → HoldsAt k p m → ⊥)
+
+-- the object is out, and a pass holds it
+abbrev pub IsTaken : ℕ → Machine → Type 0
+IsTaken k m = (bit_at m.bits k ≡ 0) × ((p : ℕ) × HoldsAt k p m)
+
+-- No object is with two passes, and each is at home or with a pass. A pass holds objects of the pool alone.
+pub record IsExclusive (objects : ℕ) (m : Machine) : Type 0 where
+  pub once : (p q k : ℕ) → HoldsAt k p m → HoldsAt k q m → p ≡ q
+  pub each : (k : ℕ) → k < objects → IsFree k m ⊎ IsTaken k m
+  pub within : (p k : ℕ) → HoldsAt k p m → k < objects
+
+-- all objects are at home, and no pass holds one
+pub record IsNew (objects : ℕ) (m : Machine) : Type 0 where
+  pub home : (k : ℕ) → k < objects → bit_at m.bits k ≡ 1
+  pub idle : (p : ℕ) (v : View) → get_elem? m.passes p ≡ some v → v.holds ≡ None
 
 -- the bit is this, and every other is as it was
 abbrev pub BitBecomes : ℕ → ℕ → ℕ → ℕ → Type 0

@@ -14,7 +14,7 @@ mod steps;
 mod view;
 
 pub use gate::{Gate, HoldGate, OpenGate};
-pub use laws::pool_steps_are_events;
+pub use laws::{pool_states_are_exclusive, pool_steps_are_events};
 pub use parked::Parked;
 pub use pass::PoolPass;
 pub use pool::Pool;

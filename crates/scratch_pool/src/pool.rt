@@ -53,6 +53,7 @@ impl<T> Pool<T> {
         requires objects { (0 < vec_len objects) × (vec_len objects ≤ 64) }
         requires seats { (0 < seats) × (seats ≤ 64) }
         ensures ok { IfOk result (λ r. (r.0.objects ≡ vec_len objects) × (r.0.seats ≡ seats) × (r.1.items ≡ fresh_passes r.0.table seats)) }
+        ensures passes { IfOk result (λ r. (vec_len r.1 ≡ seats) × AreIdle r.0.table r.1.items) }
         ensures err { IfErr result (λ e. e.0.items ≡ objects.items) }
     {
         let Ok(mut passes) = Vec::with_capacity(alloc, seats as usize) else {
@@ -141,7 +142,8 @@ fn lay_out<T>(alloc: Global, mut objects: Vec<T>, seats: u32) -> Result<Made<T>,
 fn deal<T>(places: &Places<T>, seats: u32, mut seat: Holder<T>, passes: &mut Vec<PoolPass<T>>)
     requires seat { (seat.table_id ≡ places.now.table) × (seat.me ≡ (dealer seats, [])) }
     requires room { (passes.old.items ≡ []) × (seats ≤ vec_capacity passes.old) }
-    ensures { passes.new.items ≡ fresh_passes places.now.table seats }
+    ensures passes { passes.new.items ≡ fresh_passes places.now.table seats }
+    ensures idle { (vec_len passes.new ≡ seats) × AreIdle places.now.table passes.new.items }
 {
     for number in 0..seats {
         let next = places.split(&mut seat);

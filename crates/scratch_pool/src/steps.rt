@@ -3,7 +3,7 @@
 //!
 //! The rule of the pool says which states there are, and not which steps lead from one to the next: that is
 //! said by the functions of this module. No other module reaches the table.
-ghost use Rattle.std.specs.Prelude.{◌≡◌, ◌<◌, ◌≤◌, ℕ, Some, None, MatchOption, length, IfOk, IfErr, List, [], ◌∷◌, map, reverse};
+ghost use Rattle.std.specs.Prelude.{◌≡◌, ◌<◌, ◌≤◌, ◌-◌, ◌^◌, ℕ, Some, None, MatchOption, length, IfOk, IfErr, List, [], ◌∷◌, map, reverse};
 ghost use Rattle.std.specs.Slots.{slots_items, slots_len, IsFull};
 ghost use Rattle.scratch_pool.specs.Homes.{AreHome};
 ghost use Rattle.scratch_pool.specs.Machine.{dealer, dealing, dealt, joined, spent, Takes, Misses, Returns};
@@ -67,6 +67,14 @@ impl<T> Model for Places<T> {
     ghost invariant = { λ p. IsLaidOut p.table.shared.table_id p.table.shared.key p.objects p.seats };
 }
 
+// The word in which the bits of so many objects are set.
+fn all_home(objects: usize) -> u64
+    requires { (0 < objects) × (objects ≤ 64) }
+    ensures { result ≡ 2 ^ objects - 1 }
+{
+    u64::MAX >> (64 - objects)
+}
+
 /// What a caller steps with.
 pub type Holder<T> = Seat<Option<T>, View>;
 
@@ -84,7 +92,7 @@ impl<T> Places<T> {
         ensures err { IfErr result (λ e. e.items ≡ objects.items) }
     {
         let count = objects.len();
-        let bits = u64::MAX >> (64 - count);
+        let bits = all_home(count);
         match Table::new(alloc, &[bits], objects, &(seats as u64)) {
             Ok((table, seat)) => {
                 let places = Places {

@@ -1,24 +1,15 @@
--- The first marked row, and rows that fit.
-use Rattle.std.proofs.Common.{◌≡◌, ◌∙◌, sym, ap, refl, ℕ, suc, ◌+◌, ◌<◌, ◌≤◌, ◌^◌, List, [], ◌∷◌, length, Bool, true, false, arith, inl, inr, cond}
-use Rattle.std.specs.Prelude.{Some, None, fold, All, ◌⊎◌, nat_le, unsigned_abs}
+-- The first marked row.
+use Rattle.std.proofs.Common.{◌≡◌, ◌∙◌, sym, ap, refl, ℕ, ◌+◌, ◌<◌, ◌≤◌, List, length, Bool, true, false, arith, inl, inr, cond}
+use Rattle.std.specs.Prelude.{Some, None, ◌⊎◌, nat_le}
 use Rattle.std.specs.declared.option.Option.{Option}
 use Rattle.std.proofs.lemmas.Bool.{cases_lt}
 use Rattle.std.proofs.lemmas.List.{get_or_past}
-use Rattle.fixed_q1.specs.declared.fault.LocalFault.{LocalFault}
 use Rattle.sparsity.specs.declared.rows.Row.{Row}
 use Rattle.sparsity.specs.declared.rows.Mark.{Mark}
-use Rattle.sparsity.specs.declared.rows.MarkKind.{MarkKind}
-use Rattle.sparsity.specs.declared.rows.MarkKind.TheVariants as kinds
-use Rattle.serial_sum.specs.Rows.{row_at, no_row, FitsRow, entry_of}
-use Rattle.serial_sum.specs.Steps.{RowRun, row_own, row_step, IsForRow}
-use Rattle.serial_sum.specs.Marks.{marked, after_run_of, row_after_fault, IsFirstMark, Tells}
+use Rattle.serial_sum.specs.Rows.{row_at, no_row}
+use Rattle.serial_sum.specs.Marks.{IsFirstMark, Tells}
 use Rattle.serial_sum.specs.FirstMark.{earlier_of}
 use Rattle.serial_sum.specs.declared.marks.Marked.{Marked}
-use Rattle.serial_sum.specs.declared.part.Target.{Target}
-use Rattle.serial_sum.specs.declared.part.Target.TheVariants.{Column, RightSide}
-use Rattle.serial_sum.specs.declared.part.Contribution.{Contribution}
-use Rattle.serial_sum.specs.declared.part.CellPart.{CellPart}
-use Rattle.serial_sum.proofs.StateLaws.{own_fits}
 
 -- the first marked row among those below a number
 pub record IsFirstBelow (rows : List Row) (n : ℕ) (found : Marked) : Type 0 where
@@ -104,33 +95,3 @@ some_tells rows n first all so_far = record {
     | inr more ↦ absurd (none_is_some (sym (past_mark rows j (omega (arith, all, more))) ∙ is))
   ];
 }
-
--- rows that fit
-run_row_fits : (digits : ℕ) (columns : List ℕ) (i : ℕ) (list : List Contribution) (run : RowRun) → All (IsForRow columns i) list → FitsRow columns run.row → FitsRow columns (fold (row_own digits columns i) run list).row
-run_row_fits digits columns i [] run given fits = fits
-run_row_fits digits columns i (c ∷ list) run given fits =
-    run_row_fits digits columns i list (row_own digits columns i run c) (λ k d h. given (suc k) d (next_inside k list h)) (own_fits digits columns i run c (given 0 c (first_inside list)) fits)
-  where
-    next_inside : (k : ℕ) (xs : List Contribution) → k < length xs → suc k < suc (length xs)
-    next_inside k xs h = omega arith
-
-    first_inside : (xs : List Contribution) → 0 < suc (length xs)
-    first_inside xs = omega arith
-
-marked_fits : (columns : List ℕ) (cell : ℕ) (kind : MarkKind) (row : Row) → FitsRow columns row → FitsRow columns (marked cell kind row)
-marked_fits columns cell kind row fits = record { width = fits.width; small = λ t. by_target t }
-  where
-    by_target : (t : Target) → unsigned_abs (entry_of columns (marked cell kind row) t) ≤ 2 ^ 80
-    by_target (Column j) = fits.small (Column j)
-    by_target RightSide = fits.small RightSide
-
-pub row_after_fits : (digits : ℕ) (columns : List ℕ) (i : ℕ) (row : Row) (part : CellPart) (o : Option LocalFault) → All (IsForRow columns i) part.list → FitsRow columns row → FitsRow columns (row_after_fault digits columns i row part o)
-row_after_fits digits columns i row part (Some fault) given fits = marked_fits columns part.cell _ row fits
-row_after_fits digits columns i row part None given fits = by_all (row_step digits columns i (record { row = row; all = true }) part) (run_row_fits digits columns i part.list (record { row = row; all = true }) given fits)
-  where
-    by_all : (run : RowRun) → FitsRow columns run.row → FitsRow columns (after_run_of part.cell run)
-    by_all run fits = by_bool run.all
-      where
-        by_bool : (b : Bool) → FitsRow columns (cond b run.row (marked part.cell kinds.Sum run.row))
-        by_bool true = fits
-        by_bool false = marked_fits columns part.cell _ run.row fits

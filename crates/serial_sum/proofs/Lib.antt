@@ -1,6 +1,7 @@
 pub mod KeptSizes
 pub mod RowLaws
-pub mod RunLaws
+pub mod Fitting
+pub mod Added
 pub mod EntryLaws
 pub mod PartLaws
 pub mod StateLaws

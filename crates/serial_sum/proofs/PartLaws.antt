@@ -15,7 +15,7 @@ use Rattle.serial_sum.specs.declared.sum.Failure.TheVariants.{Local, Sum}
 use Rattle.serial_sum.specs.SerialSum.{contributions, sum_of, entry, part_at, FailsLocally, FailsAtRow, Fails, FailsFirst, HasSum, FailsAs, SumIs, sum_rows}
 use Rattle.serial_sum.proofs.EntryLaws.{Holds, SomeHolds, none_stays, holds_none, some_all}
 use Rattle.sparsity.specs.declared.rows.Row.{Row}
-use Rattle.serial_sum.specs.declared.part.CellPart.{CellPart}
+use Rattle.serial_sum.specs.Parts.{CellPart}
 
 pub some_is : (o : Option ℤ) (v : ℤ) → o ≡ Some v → IsSome o
 some_is None v h = cc

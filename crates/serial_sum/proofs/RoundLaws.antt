@@ -16,7 +16,7 @@ use Rattle.serial_sum.specs.Rows.{row_at, no_row, AreUnmarked, Run, one, is_adde
 use Rattle.serial_sum.specs.Steps.{failure_at, formed_step, RowRun, row_one, row_own, row_step}
 use Rattle.serial_sum.specs.Marks.{kind_of, marked, after_run_of, row_after_fault, row_after, IsFirstMark, failure_by, failure_of, RoundItem, item_at, IsItem, AreItems, IsRound, round_end, RoundIs}
 use Rattle.serial_sum.specs.declared.part.Contribution.{Contribution}
-use Rattle.serial_sum.specs.declared.part.CellPart.{CellPart}
+use Rattle.serial_sum.specs.Parts.{CellPart}
 use Rattle.serial_sum.specs.declared.sum.Failure.TheVariants.{Local, Sum}
 use Rattle.serial_sum.specs.declared.sum.MatrixState.{MatrixState}
 use Rattle.serial_sum.proofs.StateLaws.{mark_kept, unmarked_all, row_after_one, row_after_run, run_length, length_kept, failure_stays, row_left}

@@ -1,5 +1,5 @@
 -- What one contribution does to the rows.
-use Rattle.std.proofs.Common.{◌≡◌, ◌∙◌, sym, ap, refl, ℕ, ◌<◌, ◌≤◌, ◌^◌, List, [], ◌∷◌, length, ℤ, pos, Bool, true, false, arith, subst, inl, inr, cond}
+use Rattle.std.proofs.Common.{◌≡◌, ◌∙◌, sym, ap, refl, ℕ, zero, suc, ◌<◌, ◌≤◌, ◌^◌, List, [], ◌∷◌, length, ℤ, pos, Bool, true, false, arith, subst, inl, inr, cond}
 use Rattle.std.specs.Prelude.{slice_index_or, slice_set, Some, None, unwrap_or, unsigned_abs, ◌==◌, ◌&&◌, ◌||◌, All}
 use Rattle.std.specs.declared.option.Option.{Option}
 use Rattle.std.proofs.lemmas.Bool.{cases_Bool}
@@ -93,17 +93,25 @@ width_kept : (columns : List ℕ) (row : Row) (t : Target) (v : ℤ) → length 
 width_kept columns row (Column j) v = grind (arith, common_steps)
 width_kept columns row RightSide v = refl
 
-chosen_small : (b : Bool) (v w : ℤ) → unsigned_abs v ≤ 2 ^ 80 → unsigned_abs w ≤ 2 ^ 80 → unsigned_abs (cond b v w) ≤ 2 ^ 80
-chosen_small true v w h k = h
-chosen_small false v w h k = k
+set_small : (P : ℤ → Type 0) (xs : List ℤ) (p q : ℕ) (v : ℤ) → P v → P (slice_index_or xs q (pos 0)) → P (slice_index_or (slice_set xs p v) q (pos 0))
+set_small P [] p q v new old = old
+set_small P (x ∷ xs) zero zero v new old = new
+set_small P (x ∷ xs) zero (suc q) v new old = old
+set_small P (x ∷ xs) (suc p) zero v new old = old
+set_small P (x ∷ xs) (suc p) (suc q) v new old = set_small P xs p q v new old
 
--- a row still fits
-pub row_fits : (digits : ℕ) (columns : List ℕ) (row : Row) (t : Target) (v : ℤ) → FitsRow columns row → has_target columns t ≡ true → FitsRow columns (added_row digits columns row t v)
-row_fits digits columns row t v fits h = record {
+entry_small : (columns : List ℕ) (row : Row) (t : Target) (v : ℤ) (u : Target) → unsigned_abs v ≤ 2 ^ 80 → unsigned_abs (entry_of columns row u) ≤ 2 ^ 80 →
+    unsigned_abs (entry_of columns (with_entry columns row t v) u) ≤ 2 ^ 80
+entry_small columns row (Column j) v (Column i) new old = set_small (λ z. unsigned_abs z ≤ 2 ^ 80) row.values (place columns j) (place columns i) v new old
+entry_small columns row (Column j) v RightSide new old = old
+entry_small columns row RightSide v (Column i) new old = old
+entry_small columns row RightSide v RightSide new old = new
+
+-- a row that fits still fits after any value
+pub row_fits : (digits : ℕ) (columns : List ℕ) (row : Row) (t : Target) (v : ℤ) → FitsRow columns row → FitsRow columns (added_row digits columns row t v)
+row_fits digits columns row t v fits = record {
   width = width_kept columns row t (next digits (entry_of columns row t) v) ∙ fits.width;
-  small = λ u. (let P : ℤ → Type 0 = λ z. unsigned_abs z ≤ 2 ^ 80 in
-      subst P (sym (entry_update columns row t (next digits (entry_of columns row t) v) u fits.width h))
-      (chosen_small (same_target t u) _ _ (next_small digits (entry_of columns row t) v (fits.small t)) (fits.small u)));
+  small = λ u. entry_small columns row t (next digits (entry_of columns row t) v) u (next_small digits (entry_of columns row t) v (fits.small t)) (fits.small u);
 }
 
 -- the row that was written, and any other
@@ -139,15 +147,17 @@ value_after digits pattern rows c i t fits given = elim (cases_Bool (c.row == i)
         ∙ moved (same_target c.target t) refl
         ∙ ap (λ b. cond (b && same_target c.target t) (next digits (value_at pattern rows c.row t) c.value) (value_at pattern rows c.row t)) (sym e)
 
--- the rows still fit
-pub rows_fit : (digits : ℕ) (pattern : List (List ℕ)) (rows : List Row) (c : Contribution) → FitsRows pattern rows → IsFor pattern c → FitsRows pattern (with_row digits pattern rows c)
-rows_fit digits pattern rows c fits given = record {
+-- rows that fit still fit after any contribution
+pub rows_fit : (digits : ℕ) (pattern : List (List ℕ)) (rows : List Row) (c : Contribution) → FitsRows pattern rows → FitsRows pattern (with_row digits pattern rows c)
+rows_fit digits pattern rows c fits = record {
   count = counted rows c.row (added_row digits (columns_at pattern c.row) (row_at rows c.row) c.target c.value) ∙ fits.count;
   each = λ i within. elim (cases_Bool (c.row == i)) [
-    | inl e ↦ (let P : ℕ → Type 0 = λ n. FitsRow (columns_at pattern n) (row_at (with_row digits pattern rows c) n) in
+    | inl e ↦ (let same : c.row ≡ i = same_numbers c.row i e in
+        let there : c.row < length pattern = omega (arith, same, within) in
+        let P : ℕ → Type 0 = λ n. FitsRow (columns_at pattern n) (row_at (with_row digits pattern rows c) n) in
         let Q : Row → Type 0 = λ r. FitsRow (columns_at pattern c.row) r in
-        subst P (same_numbers c.row i e) (subst Q (sym (row_there digits pattern rows c (rw fits.count given.within)))
-        (row_fits digits (columns_at pattern c.row) (row_at rows c.row) c.target c.value (fits.each c.row given.within) given.held)))
+        subst P same (subst Q (sym (row_there digits pattern rows c (rw fits.count there)))
+        (row_fits digits (columns_at pattern c.row) (row_at rows c.row) c.target c.value (fits.each c.row there))))
     | inr e ↦ (let Q : Row → Type 0 = λ r. FitsRow (columns_at pattern i) r in subst Q (sym (row_elsewhere digits pattern rows c i e)) (fits.each i within))
   ];
 }

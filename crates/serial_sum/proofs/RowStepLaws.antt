@@ -14,10 +14,11 @@ use Rattle.serial_sum.specs.Steps.{RowRun, row_one, row_own, row_step, IsForRow,
 use Rattle.serial_sum.proofs.RowLaws.{same_targets, next_added, entry_update}
 use Rattle.serial_sum.proofs.EntryLaws.{none_stays, pushed, target_itself}
 use Rattle.serial_sum.proofs.PartLaws.{Whole, whole_entry, list_more, last_part, before_last, count_more, take_whole, some_is}
-use Rattle.serial_sum.proofs.StateLaws.{StateIs, state_from_zero, own_fits}
+use Rattle.serial_sum.proofs.Fitting.{own_fits}
+use Rattle.serial_sum.proofs.StateLaws.{StateIs, state_from_zero}
 use Rattle.sparsity.specs.declared.rows.Row.{Row}
 use Rattle.serial_sum.specs.declared.sum.MatrixState.{MatrixState}
-use Rattle.serial_sum.specs.declared.part.CellPart.{CellPart}
+use Rattle.serial_sum.specs.Parts.{CellPart}
 
 same_numbers : (m n : ℕ) → (m == n) ≡ true → m ≡ n
 same_numbers m n h = grind arith
@@ -134,7 +135,7 @@ row_holds_all digits columns i (c ∷ more) list run given fits so_far =
     let P : List Contribution → Type 0 = λ xs. RowHolds digits columns i xs end.row end.all in
     subst P (append_assoc list (c ∷ []) more)
     (row_holds_all digits columns i more (list ++ c ∷ []) (row_own digits columns i run c) (λ k d h. given (suc k) d (next_inside k more h))
-    (own_fits digits columns i run c (given 0 c (first_inside more)) fits) (row_holds_one digits columns i list run c fits (given 0 c (first_inside more)) so_far))
+    (own_fits digits columns i run c fits) (row_holds_one digits columns i list run c fits (given 0 c (first_inside more)) so_far))
   where
     next_inside : (k : ℕ) (xs : List Contribution) → k < length xs → suc k < suc (length xs)
     next_inside k xs h = omega arith

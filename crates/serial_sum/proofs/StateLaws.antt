@@ -1,5 +1,5 @@
 -- The steps give the sum.
-use Rattle.std.proofs.Common.{◌≡◌, ◌∙◌, sym, ap, refl, ℕ, suc, zero, ◌+◌, ◌≤◌, ◌<◌, ◌^◌, List, [], ◌∷◌, ◌++◌, ℤ, pos, Bool, true, false, arith, append_assoc, append-nil, inl, inr, length, map, subst, cond, take, lit≤}
+use Rattle.std.proofs.Common.{◌≡◌, ◌∙◌, sym, ap, refl, ℕ, suc, zero, ◌≤◌, ◌<◌, ◌^◌, List, [], ◌∷◌, ◌++◌, ℤ, pos, Bool, true, false, arith, append_assoc, append-nil, inl, inr, length, map, subst, cond, lit≤}
 use Rattle.std.specs.Prelude.{Some, None, Err, slice_index_or, slice_set, unwrap_or, replicate, fold, All, ◌==◌, unsigned_abs, ◌||◌}
 use Rattle.std.specs.declared.option.Option.{Option}
 use Rattle.std.specs.List.{range_with_len, list_any, flat_map}
@@ -7,7 +7,7 @@ use Rattle.std.proofs.lemmas.Bool.{cases_lt, cases_Bool}
 use Rattle.std.proofs.lemmas.List.{ext_get_or, get_or-map, get_or_past}
 use Rattle.std.proofs.lemmas.List.Concat.{flat_map-cons}
 use Rattle.std.proofs.lemmas.List.FromFn.{get_or-map-range_with_len, length-map-range_with_len}
-use Rattle.std.proofs.lemmas.List.Sums.{fold_more, fold-append}
+use Rattle.std.proofs.lemmas.List.Sums.{fold-append}
 use Rattle.std.proofs.lemmas.Grind.{common_steps}
 use Rattle.serial_sum.specs.Columns.{columns_at, AreRising, place}
 use Rattle.serial_sum.specs.declared.part.Target.{Target}
@@ -16,15 +16,15 @@ use Rattle.serial_sum.specs.declared.part.Contribution.{Contribution}
 use Rattle.fixed_q1.specs.declared.fault.LocalFault.{LocalFault}
 use Rattle.serial_sum.specs.declared.sum.Failure.{Failure}
 use Rattle.serial_sum.specs.declared.sum.Failure.TheVariants.{Local, Sum}
-use Rattle.serial_sum.specs.Rows.{AreUnmarked, with_entry, next, row_at, no_row, value_at, entry_of, FitsRow, FitsRows, IsFor, Run, one, with_row, added_row}
+use Rattle.serial_sum.specs.Rows.{AreUnmarked, with_entry, next, row_at, no_row, value_at, entry_of, FitsRow, FitsRows, Run, one, with_row, added_row}
 use Rattle.serial_sum.specs.SerialSum.{contributions, SumIs, sum_row, sum_rows, sum_or_zero}
-use Rattle.serial_sum.specs.Steps.{failure_at, formed_step, step_on, step_of, zero_state, result_of, answer_of, IsPartFor, RowRun, row_one, row_own, row_step, IsForRow, FaultIs, failure_fault}
-use Rattle.serial_sum.proofs.RowLaws.{place_is, row_fits, rows_fit, row_there, row_elsewhere}
+use Rattle.serial_sum.specs.Steps.{failure_at, formed_step, step_on, step_of, zero_state, result_of, answer_of, IsPartFor, RowRun, row_one, row_own, row_step, FaultIs, failure_fault}
+use Rattle.serial_sum.proofs.RowLaws.{place_is, row_there, row_elsewhere}
 use Rattle.serial_sum.proofs.EntryLaws.{Holds, RunHolds, run_all}
 use Rattle.serial_sum.proofs.PartLaws.{Whole, Failing, whole_entry, whole_more, whole_sum, whole_none, local_fails, sum_fails, failing_more}
 use Rattle.sparsity.specs.declared.rows.Row.{Row}
 use Rattle.serial_sum.specs.declared.sum.MatrixState.{MatrixState}
-use Rattle.serial_sum.specs.declared.part.CellPart.{CellPart}
+use Rattle.serial_sum.specs.Parts.{CellPart}
 use Rattle.sparsity.specs.Rows.{zero_row}
 
 -- the rows hold the sums of these parts, or the sum has failed so
@@ -194,26 +194,6 @@ steps_give digits pattern parts rising given =
     by_failure rows None is = (whole_sum digits parts (value_at pattern rows) is.says, rows_are digits pattern parts rows rising is.fits is.unmarked is.says)
     by_failure rows (Some failure) is = is.says
 
--- and keep the rows fit
-pub run_fits : (digits : ℕ) (pattern : List (List ℕ)) (list : List Contribution) (run : Run) → All (IsFor pattern) list → FitsRows pattern run.rows → FitsRows pattern (fold (one digits pattern) run list).rows
-run_fits digits pattern [] run given fits = fits
-run_fits digits pattern (c ∷ list) run given fits =
-    run_fits digits pattern list (one digits pattern run c) (λ k d h. given (suc k) d (next_inside k list h)) (rows_fit digits pattern run.rows c fits (given 0 c (first_inside list)))
-  where
-    next_inside : (k : ℕ) (xs : List Contribution) → k < length xs → suc k < suc (length xs)
-    next_inside k xs h = omega arith
-
-    first_inside : (xs : List Contribution) → 0 < suc (length xs)
-    first_inside xs = omega arith
-
-pub step_fits : (digits : ℕ) (pattern : List (List ℕ)) (rows : List Row) (failure : Option Failure) (p : CellPart) → IsPartFor pattern p → FitsRows pattern rows → FitsRows pattern (step_on digits pattern rows failure p).rows
-step_fits digits pattern rows (Some failure) p given fits = fits
-step_fits digits pattern rows None p given fits = by_fault p.fault
-  where
-    by_fault : (o : Option LocalFault) → FitsRows pattern (formed_step digits pattern rows p o).rows
-    by_fault (Some fault) = fits
-    by_fault None = run_fits digits pattern p.list (record { rows = rows; least = None }) given fits
-
 -- what the contributions of a part do to one row
 pub length_kept : (digits : ℕ) (pattern : List (List ℕ)) (rows : List Row) (c : Contribution) → length (with_row digits pattern rows c) ≡ length rows
 length_kept digits pattern rows c = counted rows c.row (added_row digits (columns_at pattern c.row) (row_at rows c.row) c.target c.value)
@@ -289,39 +269,7 @@ rows_from_zero digits pattern parts i h none =
     inside : (pattern : List (List ℕ)) (i : ℕ) → i < length pattern → i < length (map zero_row pattern)
     inside pattern i h = grind (arith, common_steps)
 
--- one contribution more at a row
-pub own_fits : (digits : ℕ) (columns : List ℕ) (i : ℕ) (run : RowRun) (c : Contribution) → IsForRow columns i c → FitsRow columns run.row → FitsRow columns (row_own digits columns i run c).row
-own_fits digits columns i run c given fits = by_row (c.row == i) refl
-  where
-    by_row : (b : Bool) → (c.row == i) ≡ b → FitsRow columns (cond b (row_one digits columns run c) run).row
-    by_row true e = row_fits digits columns run.row c.target c.value fits (given.held (same_numbers c.row i e))
-    by_row false e = fits
-
-pub own_more : (digits : ℕ) (columns : List ℕ) (i : ℕ) (list : List Contribution) (k : ℕ) (c : Contribution) (start before now : RowRun) → k < length list → c ≡ slice_index_or list k c →
-    before ≡ fold (row_own digits columns i) start (take k list) → now ≡ row_own digits columns i before c → now ≡ fold (row_own digits columns i) start (take (k + 1) list)
-own_more digits columns i list k c start before now inside item so_far step =
-    step ∙ ap (λ r. row_own digits columns i r c) so_far ∙ ap (λ x. row_own digits columns i (fold (row_own digits columns i) start (take k list)) x) item
-    ∙ sym (fold_more (row_own digits columns i) start list k c inside)
-
--- one part more
-pub step_more : (digits : ℕ) (pattern : List (List ℕ)) (parts : List CellPart) (k : ℕ) (p : CellPart) (start before now : MatrixState) → k < length parts → p ≡ slice_index_or parts k p →
-    before ≡ fold (step_of digits pattern) start (take k parts) → now ≡ step_of digits pattern before p → now ≡ fold (step_of digits pattern) start (take (k + 1) parts)
-step_more digits pattern parts k p start before now inside item so_far step =
-    step ∙ ap (λ s. step_of digits pattern s p) so_far ∙ ap (λ x. step_of digits pattern (fold (step_of digits pattern) start (take k parts)) x) item ∙ sym (fold_more (step_of digits pattern) start parts k p inside)
-
--- the state after all parts
-pub end_says : (digits : ℕ) (pattern : List (List ℕ)) (parts : List CellPart) (k : ℕ) (rows : List Row) (failure : Option Failure) → k ≡ length parts → AreRising pattern → All (IsPartFor pattern) parts →
-    ◌≡◌ {A = MatrixState} (record { rows = rows; failure = failure }) (fold (step_of digits pattern) (zero_state pattern) (take k parts)) → SumIs digits pattern parts (result_of rows failure)
-end_says digits pattern parts k rows failure e rising given so_far =
-    let P : MatrixState → Type 0 = λ s. SumIs digits pattern parts (answer_of s) in
-    subst P (sym (so_far ∙ ap (fold (step_of digits pattern) (zero_state pattern)) (ap (λ n. take n parts) e ∙ whole parts))) (steps_give digits pattern parts rising given)
-  where
-    whole : (parts : List CellPart) → take (length parts) parts ≡ parts
-    whole parts = grind (arith, common_steps)
-
-pub part_given : (pattern : List (List ℕ)) (parts : List CellPart) (k : ℕ) (p : CellPart) → k < length parts → p ≡ slice_index_or parts k p → All (IsPartFor pattern) parts → IsPartFor pattern p
-part_given pattern parts k p inside item given = let P : CellPart → Type 0 = IsPartFor pattern in subst P (sym item) (given k p inside)
-
+-- a failure of the sum as a fault
 pub fault_says : (digits : ℕ) (pattern : List (List ℕ)) (parts : List CellPart) (failure : Failure) → SumIs digits pattern parts (Err failure) → FaultIs digits pattern parts (failure_fault failure)
 fault_says digits pattern parts (Local cell fault) h = h
 fault_says digits pattern parts (Sum cell row) h = h

@@ -12,7 +12,7 @@ use Rattle.serial_sum.specs.Columns.{columns_at}
 use Rattle.serial_sum.specs.Rows.{row_at, AreUnmarked}
 use Rattle.serial_sum.specs.Steps.{RowRun, row_step, step_of, IsPartFor}
 use Rattle.serial_sum.specs.declared.part.Contribution.{Contribution}
-use Rattle.serial_sum.specs.declared.part.CellPart.{CellPart}
+use Rattle.serial_sum.specs.Parts.{CellPart}
 use Rattle.serial_sum.specs.declared.sum.MatrixState.{MatrixState}
 use Rattle.serial_sum.specs.declared.sum.Failure.{Failure}
 use Rattle.serial_sum.specs.declared.sum.Failure.TheVariants.{Local, Sum}

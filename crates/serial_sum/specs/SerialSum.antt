@@ -14,7 +14,7 @@ use Rattle.fixed_q1.specs.declared.fault.LocalFault.{LocalFault}
 use Rattle.serial_sum.specs.declared.sum.Failure.{Failure}
 use Rattle.serial_sum.specs.declared.sum.Failure.TheVariants.{Local, Sum}
 use Rattle.sparsity.specs.declared.rows.Row.{Row}
-use Rattle.serial_sum.specs.declared.part.CellPart.{CellPart}
+use Rattle.serial_sum.specs.Parts.{CellPart}
 
 abbrev pub next_sum : ℕ → Option ℤ → Contribution → Option ℤ
 next_sum digits None c = None

@@ -12,7 +12,7 @@ use Rattle.serial_sum.specs.declared.sum.Failure.{Failure}
 use Rattle.serial_sum.specs.declared.sum.Failure.TheVariants.{Local, Sum}
 use Rattle.sparsity.specs.declared.rows.Row.{Row}
 use Rattle.serial_sum.specs.declared.sum.MatrixState.{MatrixState}
-use Rattle.serial_sum.specs.declared.part.CellPart.{CellPart}
+use Rattle.serial_sum.specs.Parts.{CellPart}
 use Rattle.sparsity.specs.Rows.{zero_row}
 
 abbrev pub failure_at : ℕ → Option ℕ → Option Failure

@@ -1,8 +1,7 @@
-ghost use Rattle.std.specs.Prelude.{◌≡◌, ◌<◌, ◌≤◌, ◌^◌, length, fold, All, slice_index, true, unsigned_abs, is_some, None};
+ghost use Rattle.std.specs.Prelude.{◌≡◌, ◌<◌, ◌≤◌, ◌^◌, length, slice_index, true, unsigned_abs, is_some};
 ghost use Rattle.fem_fixed.specs.KeptSum.{added};
-ghost use Rattle.serial_sum.specs.Columns.{IsRising, AreRising, columns_at};
-ghost use Rattle.serial_sum.specs.Rows.{has_target, FitsRow, FitsRows, IsFor, next, added_row, is_added, row_at, with_row, Run, one, least_after};
-ghost use Rattle.serial_sum.specs.Steps.{RowRun, row_own, IsForRow};
+ghost use Rattle.serial_sum.specs.Columns.{IsRising, columns_at};
+ghost use Rattle.serial_sum.specs.Rows.{has_target, FitsRow, FitsRows, IsFor, next, added_row, is_added, row_at, with_row};
 ghost use Rattle.serial_sum.specs.declared.part.Target.TheVariants.{Column, RightSide};
 
 use crate::columns::place_of;
@@ -40,7 +39,7 @@ fn add_to(entry: i128, value: i128, digits: u32) -> Added
 /// Adds a value to the entry at a place of a row with these columns, where the sum is at most 2^80 in size. Whether it
 /// was added.
 #[inline(always)]
-pub fn add_at(row: &mut Row, columns: &[u32], place: usize, value: i128, digits: u32) -> bool
+fn add_at(row: &mut Row, columns: &[u32], place: usize, value: i128, digits: u32) -> bool
     requires fits { FitsRow columns.now row.old }
     requires rising { IsRising columns.now }
     requires within { place < length columns.now }
@@ -56,7 +55,7 @@ pub fn add_at(row: &mut Row, columns: &[u32], place: usize, value: i128, digits:
 
 /// Adds a value to the right side of a row, where the sum is at most 2^80 in size. Whether it was added.
 #[inline(always)]
-pub fn add_right_side(row: &mut Row, columns: &[u32], value: i128, digits: u32) -> bool
+fn add_right_side(row: &mut Row, columns: &[u32], value: i128, digits: u32) -> bool
     requires fits { FitsRow columns.now row.old }
     requires term { unsigned_abs value ≤ 2 ^ 100 }
     requires digits { digits ≤ 64 }
@@ -71,7 +70,7 @@ pub fn add_right_side(row: &mut Row, columns: &[u32], value: i128, digits: u32) 
 
 /// Adds a value to an entry of a row with these columns, where the sum is at most 2^80 in size. Whether it was added.
 #[inline(always)]
-pub fn add(row: &mut Row, columns: &[u32], target: Target, value: i128, digits: u32) -> bool
+pub(crate) fn add(row: &mut Row, columns: &[u32], target: Target, value: i128, digits: u32) -> bool
     requires fits { FitsRow columns.now row.old }
     requires rising { IsRising columns.now }
     requires held { has_target columns.now target ≡ true }
@@ -86,50 +85,9 @@ pub fn add(row: &mut Row, columns: &[u32], target: Target, value: i128, digits: 
     }
 }
 
-/// Adds those contributions that go to a row, which is row i, where the sums are at most 2^80 in size. Whether all of
-/// them were added.
-pub fn add_own(row: &mut Row, columns: &[u32], i: u32, list: &[Contribution], digits: u32) -> bool
-    requires fits { FitsRow columns.now row.old }
-    requires rising { IsRising columns.now }
-    requires list { All (IsForRow columns.now i) list.now }
-    requires digits { digits ≤ 64 }
-    ensures { ◌≡◌ {A = RowRun} (record { row = row.new; all = result }) (fold (row_own digits columns.now i) (record { row = row.old; all = true }) list.now) }
-{
-    let mut all = true;
-    for given in list {
-        all = add_where(row, columns, i, *given, digits, all);
-    }
-    all
-}
-
-/// Adds a contribution, where it goes to row i. Whether all was added so far.
-fn add_where(
-    row: &mut Row,
-    columns: &[u32],
-    i: u32,
-    given: Contribution,
-    digits: u32,
-    all: bool,
-) -> bool
-    requires fits { FitsRow columns.now row.old }
-    requires rising { IsRising columns.now }
-    requires given { IsForRow columns.now i given }
-    requires digits { digits ≤ 64 }
-    ensures { ◌≡◌ {A = RowRun} (record { row = row.new; all = result }) (row_own digits columns.now i (record { row = row.old; all = all }) given) }
-{
-    if given.row != i {
-        return all;
-    }
-    let added = add(row, columns, given.target, given.value, digits);
-    if !all {
-        return false;
-    }
-    added
-}
-
 /// Adds a contribution to the rows, where the sum is at most 2^80 in size. Whether it was added.
 #[inline(always)]
-pub fn add_contribution(
+pub(crate) fn add_contribution(
     rows: &mut Rows,
     pattern: &Pattern,
     given: Contribution,
@@ -144,38 +102,4 @@ pub fn add_contribution(
     let columns = pattern.row(given.row);
     let row = rows.get_mut(given.row);
     add(row, columns, given.target, given.value, digits)
-}
-
-/// Adds contributions to the rows, one after another. A sum above 2^80 in size isn't added, and the least row with such
-/// a sum is given.
-pub fn add_list(
-    rows: &mut Rows,
-    pattern: &Pattern,
-    list: &[Contribution],
-    digits: u32,
-) -> Option<u32>
-    requires fits { FitsRows pattern.now rows.old }
-    requires list { All (IsFor pattern.now) list.now }
-    requires digits { digits ≤ 64 }
-    ensures { ◌≡◌ {A = Run} (record { rows = rows.new; least = result }) (fold (one digits pattern.now) (record { rows = rows.old; least = None }) list.now) }
-{
-    let mut least = None;
-    for given in list {
-        let added = add_contribution(rows, pattern, *given, digits);
-        least = lower(added, least, given.row);
-    }
-    least
-}
-
-/// The lower of the least failing row so far and this row, where this one failed.
-fn lower(added: bool, least: Option<u32>, row: u32) -> Option<u32>
-    ensures { result ≡ least_after added least row }
-{
-    if added {
-        return least;
-    }
-    match least {
-        Some(other) => Some(other.min(row)),
-        None => Some(row),
-    }
 }

@@ -8,7 +8,7 @@ ghost use Rattle.serial_sum.specs.SerialSum.{SumIs, FailsAtRow};
 ghost use Rattle.std.specs.List.{list_any, flat_map};
 ghost use Rattle.sparsity.specs.Rows.{zero_row};
 ghost use Rattle.sparsity.specs.declared.rows.Row.{Row};
-ghost use Rattle.serial_sum.specs.declared.part.CellPart.{CellPart};
+ghost use Rattle.serial_sum.specs.Parts.{CellPart};
 ghost use Rattle.serial_sum.specs.declared.sum.MatrixState.{MatrixState};
 ghost use Rattle.serial_sum.specs.declared.part.Contribution.{Contribution};
 ghost use Rattle.serial_sum.specs.declared.sum.Failure.{Failure};

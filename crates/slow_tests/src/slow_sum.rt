@@ -1,7 +1,7 @@
 //! The sum of a system by the definition of its contributions: each is added by itself, in their order, to a full matrix.
 use affine_constraints::Closed;
+use cell_blocks::Block;
 use fem_fixed::{add_kept, rdiv};
-use local_blocks::Block;
 use mesh_loop::{CellCopy, CellScratch, Setup};
 use std::alloc::Global;
 
@@ -217,7 +217,7 @@ fn add_cell(full: &mut Full, alloc: Global, setup: &Setup, copy: &CellCopy) -> O
         return None;
     }
     for k in 0..copy.blocks() {
-        add_block(full, alloc, setup.closed(), copy.block(k))?;
+        add_block(full, alloc, setup.closed(), &copy.block(k))?;
     }
     Some(())
 }

@@ -1,5 +1,5 @@
 -- All rows, and a place in one.
-use Rattle.std.proofs.Common.{◌≡◌, ◌≤◌, ◌<◌, ◌+◌, ◌^◌, ◌++◌, ◌⊎◌, inl, inr, ⊎_elim, ℕ, false, ◌==◌, List, [], ◌∷◌, length, map, refl, sym, ap, ap₂, ◌∙◌, subst, arith, slice_index_or}
+use Rattle.std.proofs.Common.{◌≡◌, ◌≤◌, ◌<◌, ◌+◌, ◌^◌, ◌++◌, ◌⊎◌, ◌↔◌, inl, inr, ⊎_elim, ℕ, Bool, false, IsTrue, ◌==◌, List, [], ◌∷◌, length, map, refl, sym, ap, ap₂, ◌∙◌, subst, arith, slice_index_or}
 use Rattle.std.specs.Prelude.{All, Ok, Err, IfOk, MatchResult, MatchOption}
 use Rattle.std.specs.declared.option.Option.{Option}
 use Rattle.std.specs.declared.result.Result.{Result}
@@ -9,12 +9,12 @@ use Rattle.std.specs.Ordering.{nat_cmp}
 use Rattle.std.specs.List.Sorted.{IsStrictlyIncreasing, IsBinarySearchResult}
 use Rattle.std.proofs.lemmas.Bool.{cases_lt}
 use Rattle.std.proofs.lemmas.List.{length-append}
-use Rattle.std.proofs.lemmas.List.Elements.{All-map, All-from_get_or}
+use Rattle.std.proofs.lemmas.List.Elements.{All-map, All-filter, All-from_get_or}
 use Rattle.std.proofs.lemmas.List.Folds.{list_any_none}
 use Rattle.std.proofs.lemmas.List.FromFn.{length-range_with_len, length-map-range_with_len, get_or-range_with_len}
 use Rattle.std.proofs.lemmas.List.Kept.{AllPairs-from_increasing, IsStrictlyIncreasing-filter}
 use Rattle.std.proofs.lemmas.List.Sorted.{searched}
-use Rattle.sparsity.specs.Coupled.{CoupledDofs, has, is_coupled, row_of, rows_of}
+use Rattle.sparsity.specs.Coupled.{CoupledDofs, has, is_coupled, row_of, rows_of, pairs_of, IsPattern}
 
 -- things that were made one by one
 each_is : {X A : Type 0} (E : Type 0) (g : X → A) (f : ℕ → A) (ns : List ℕ) (ys : List X) → AllZip (λ n (x : Result X E). IfOk x (λ y. g y ≡ f n)) ns (map Ok ys) → map g ys ≡ map f ns
@@ -78,8 +78,35 @@ placed xs j (Err p) o h found e =
     let parts = searched xs j (Err p) found (rises xs h) in
     rw e (none_at xs j (λ k lt. ⊎_elim (λ (low : k < p). not_at (slice_index_or xs k 0) j (inl (parts.1 k low))) (λ (high : p ≤ k). not_at (slice_index_or xs k 0) j (inr (parts.2 k high lt))) (cases_lt k p)))
 
+range_below : (n : ℕ) → All (λ j. j < n) (range_with_len 0 n)
+range_below n k d inside =
+    let low : k < n = omega (arith, inside, length-range_with_len 0 n) in
+    let at = get_or-range_with_len 0 n k d low in omega (arith, at, low)
+
+row_within : (size : ℕ) (lists : List (List ℕ)) (i : ℕ) → All (λ j. j < size) (row_of size lists i)
+unfolding row_of
+row_within size lists i = All-filter (is_coupled lists i) (λ j. j < size) (range_with_len 0 size) (range_below size)
+
+rows_within : (couplings : CoupledDofs) → All (All (λ j. j < couplings.size)) (rows_of couplings)
+unfolding rows_of
+rows_within couplings = All-map (All (λ j. j < couplings.size)) (row_of couplings.size couplings.lists) (range_with_len 0 couplings.size) (λ k d lt. row_within couplings.size couplings.lists _)
+
+no_test : (above : Bool) → IsTrue above → above ≡ false → ⊥
+no_test above h e = grind (arith, h, e)
+
+-- what a test that there are more pairs than the limit says where it fails
+pub not_above : (above : Bool) (pairs : ℕ) → (IsTrue above ↔ (33554432 < pairs)) → above ≡ false → pairs ≤ 33554432
+not_above above pairs h e = ⊎_elim (λ (more : 33554432 < pairs). absurd (no_test above (h.1 more) e)) (λ (few : pairs ≤ 33554432). few) (cases_lt 33554432 pairs)
+
 -- what the finished pattern keeps
-pub pattern_keeps : (couplings : CoupledDofs) (rows : List (List ℕ)) → rows ≡ rows_of couplings → couplings.size < 2 ^ 32 → All IsStrictlyIncreasing rows × (length rows < 2 ^ 32)
-pattern_keeps couplings rows e fits =
-    let P : List (List ℕ) → Type 0 = λ ls. All IsStrictlyIncreasing ls in
-    (subst P (sym e) (rows_rising couplings), omega (arith, fits, ap length e, rows_count couplings))
+pub pattern_keeps : (couplings : CoupledDofs) (rows : List (List ℕ)) → rows ≡ rows_of couplings → couplings.size < 2 ^ 32 → pairs_of couplings ≤ 33554432 → IsPattern rows
+pattern_keeps couplings rows e fits few =
+    let count = rows_count couplings in
+    let P : ℕ → Type 0 = λ n. All (All (λ j. j < n)) (rows_of couplings) in
+    let kept : IsPattern (rows_of couplings) = record {
+      rising = rows_rising couplings;
+      square = subst P (sym count) (rows_within couplings);
+      few = few;
+      size = omega (arith, fits, count);
+    } in
+    subst IsPattern (sym e) kept

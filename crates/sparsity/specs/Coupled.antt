@@ -1,6 +1,7 @@
 -- Which dofs couple, and the rows of the pattern.
-use Rattle.std.specs.Prelude.{ℕ, ◌*◌, Bool, ◌==◌, ◌||◌, ◌&&◌, List, map, filter, length}
+use Rattle.std.specs.Prelude.{ℕ, ◌*◌, ◌^◌, ◌<◌, ◌≤◌, Bool, ◌==◌, ◌||◌, ◌&&◌, List, All, map, filter, length}
 use Rattle.std.specs.List.{list_any, range_with_len, concat, sum_by}
+use Rattle.std.specs.List.Sorted.{IsStrictlyIncreasing}
 
 -- how many dofs there are, and the lists of dofs that couple
 pub record CoupledDofs : Type 0 where
@@ -34,3 +35,10 @@ pairs_of couplings = length (concat (rows_of couplings))
 -- the squares of the lists' lengths, together
 abbrev pub squares_of : List (List ℕ) → ℕ
 squares_of lists = sum_by (λ list. length list * length list) lists
+
+-- what the rows of each pattern keep: columns rise and are numbers of rows, and there are no more pairs than the limit
+pub record IsPattern (rows : List (List ℕ)) : Type 0 where
+  pub rising : All IsStrictlyIncreasing rows
+  pub square : All (All (λ j. j < length rows)) rows
+  pub few : length (concat rows) ≤ 33554432
+  pub size : length rows < 2 ^ 32

@@ -17,21 +17,21 @@ use std::marker::Model;
 use std::thread::Threads;
 
 /// Which pairs of dofs couple, by rows of rising columns, in compressed rows: 4 bytes a pair and 8 a row. Contracts see
-/// the list of its rows.
+/// the list of its rows. Each column is below the number of rows, and there are at most 33,554,432 pairs.
 #[derive(Drop)]
 pub struct Pattern {
     rows: Lists,
 }
 
 impl Model for Pattern {
-    ghost use Rattle.std.specs.Prelude.{◌<◌, ◌^◌, ℕ, List, All, length};
-    ghost use Rattle.std.specs.List.Sorted.{IsStrictlyIncreasing};
+    ghost use Rattle.std.specs.Prelude.{ℕ, List};
+    ghost use Rattle.sparsity.specs.Coupled.{IsPattern};
 
     ghost Value = { List (List ℕ) };
 
     ghost view = { λ a. a.rows };
 
-    ghost invariant = { λ a. All (IsStrictlyIncreasing) a.rows × (length a.rows < 2 ^ 32) };
+    ghost invariant = { λ a. IsPattern a.rows };
 }
 
 impl Pattern {
@@ -60,10 +60,12 @@ impl Pattern {
         Ok(Pattern { rows })
     }
 
-    /// How many rows there are.
+    /// How many rows there are, and so how many columns.
     pub fn size(&self) -> u32
         ensures size { result ≡ length self.now }
         ensures rising { All IsStrictlyIncreasing self.now }
+        ensures square { All (All (λ j. j < length self.now)) self.now }
+        ensures few { length (concat self.now) ≤ 33554432 }
     {
         self.rows.len() as u32
     }

@@ -4,8 +4,8 @@ use fem_fixed::NoMemory;
 use std::alloc::Global;
 use std::marker::Model;
 
-/// The values of a row, one for each of its columns, in units of 2^-32. Contracts see the list of the values. It
-/// keeps its length: values are written one at a time.
+/// The values of a row, one for each of its columns, in units of 2^-32. Contracts see the list of the values, which
+/// are written one at a time.
 #[derive(Drop)]
 pub struct RowValues {
     items: Vec<i128>,

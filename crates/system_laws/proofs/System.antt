@@ -21,14 +21,14 @@ use Rattle.fixed_q1.specs.CellForm.{cell_form}
 use Rattle.fixed_q1.specs.JumpForm.{jump_form}
 use Rattle.fixed_q1.specs.Places.{reference_place}
 use Rattle.fixed_q1.specs.LocalForm.{LocalForm}
-use Rattle.local_blocks.specs.Blocks.{LocalBlock}
+use Rattle.cell_blocks.specs.LocalBlocks.{LocalBlock}
 use Rattle.mesh_visits.specs.declared.flags.Flags.{Flags}
 use Rattle.mesh_visits.specs.declared.visit.Visit.{Visit}
 use Rattle.mesh_visits.specs.declared.visit.Visit.TheVariants.{Cell as OnCell, Boundary as OnBoundary, Interior as OnPart}
 use Rattle.mesh_visits.specs.Visits.{visits_of}
 use Rattle.cell_blocks.specs.Blocks.{Given, material_of, points_of, part_ends, face_form, visit_dofs, visit_form, with_dofs, block_of, all_blocks, blocks_of, cell_blocks}
-use Rattle.cell_sums.specs.Parts.{part_of_blocks}
-use Rattle.serial_sum.specs.declared.part.CellPart.{CellPart}
+use Rattle.block_sums.specs.Parts.{part_of_blocks}
+use Rattle.serial_sum.specs.Parts.{CellPart}
 use Rattle.sparsity.specs.Coupled.{has, rows_of}
 use Rattle.mesh_loop.specs.Setup.{MeshProblem, cells_of, cell_visits, masters_of, visit_masters, coupled_by, coupled_dofs, pattern_of, visit_rows, written_rows}
 use Rattle.mesh_loop.specs.Sum.{part_of, parts_of}

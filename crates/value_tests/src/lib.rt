@@ -22,6 +22,8 @@ mod second_forms;
 #[cfg(test)]
 mod short;
 #[cfg(test)]
+mod subdomains;
+#[cfg(test)]
 mod texts;
 #[cfg(test)]
 mod words;

@@ -1,9 +1,5 @@
-use Rattle.std.proofs.Common.{◌≡◌, ◌-◌, suc, ap, map, length, arith, ◌∙◌}
-use Rattle.std.proofs.lemmas.List.{length-map}
-use lib.ListN.{get_elem?}
-use mathlib.Core.Option.{some}
-use Rattle.colored_copier.specs.Plans.{row_number}
-use Rattle.colored_copier.proofs.Search.{counted, ends_at}
+use Rattle.std.proofs.Common.{◌-◌, length, arith}
+use Rattle.colored_copier.proofs.Search.{ends_at}
 use Rattle.colored_copier.proofs.places.are_counted.Goals as goal
 
 pub returns : goal.returns

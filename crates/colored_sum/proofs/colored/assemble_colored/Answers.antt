@@ -1,4 +1,4 @@
-use Rattle.std.proofs.Common.{◌≡◌, ◌∙◌, ◌-◌, ◌<◌, ℕ, List, arith, length, map, sym, subst, slice_index, Some, Ok}
+use Rattle.std.proofs.Common.{◌≡◌, ◌-◌, ◌<◌, ℕ, List, arith, length, map, sym, subst, slice_index, Some, Ok}
 use Rattle.conflict_coloring.specs.Coloring.{color_count}
 use Rattle.sparsity.specs.declared.rows.Row.{Row}
 use Rattle.sparsity.specs.Rows.{zero_row}
@@ -19,14 +19,13 @@ use Rattle.colored_sum.proofs.colored.assemble_colored.Goals as goal
 pub loop-color-init : goal.loop-color-init
 loop-color-init g c =
     let s : MeshProblem = c.args.setup.now in
-    let zeros : c.in_ok-rows.rows ≡ map zero_row c.pattern.result.now = c.in_ok-rows.ensures ∙ c.in_ok-zeros.ensures.zeros in
+    let zeros : c.in_ok-rows.rows ≡ map zero_row c.pattern.result.now = c.in_ok-rows.ensures in
     let P : List (List ℕ) → Type 0 = λ p. FitsRows p c.in_ok-rows.rows in
     let Q : List Row → Type 0 = FitsRows c.pattern.result.now in
     record {
       steps = none_before c.args.plan.now.digits s c.args.colors.now.order (slice_index c.args.colors.now.starts 0) c.in_ok-rows.rows c.pattern.result.now c.pattern.ensures zeros c.requires.colors.starts.first;
       clean = zero_clean c.in_ok-rows.rows c.pattern.result.now zeros;
       fits = subst P c.pattern.ensures (subst Q (sym zeros) (zero_fits c.pattern.result.now));
-      home = c.in_ok-crew.ensures;
     }
 
 pub new-job-requires-clause-cells : goal.new-job-requires-clause-cells
@@ -62,7 +61,6 @@ loop-color-preserved g c =
           c.cells_of_color.ensures.cells c.cells_of_color.ensures.part c.loop-color.invariant.clean c.loop-color.invariant.fits c.loop-color.invariant.steps round (c.has_mark.ensures.none c.if-has_mark.false);
       clean = c.has_mark.ensures.none c.if-has_mark.false;
       fits = same_fits s c.new-job.result.setup.now c.in_ok-rows-2.rows c.new-job.ensures.setup c.in_ok-rows-2.ensures.fits;
-      home = c.in_ok-rows-2.ensures.crew;
     }
 
 pub returns-clause-ok : goal.returns-clause-ok

@@ -2,7 +2,7 @@ use Rattle.std.proofs.Common.{rules, ◌<◌, length, sym, subst}
 use Rattle.std.specs.Prelude.{IfOk}
 use Rattle.cell_blocks.specs.Blocks.{Given, block_of, visit_dofs}
 use Rattle.cell_blocks.specs.Views.{given}
-use Rattle.local_blocks.specs.Blocks.{IsBlock}
+use Rattle.cell_blocks.specs.LocalBlocks.{IsBlock}
 use Rattle.mesh_visits.specs.declared.visit.Visit.{Visit}
 use Rattle.mesh_loop.proofs.Limited.{part_limited, some_of_part}
 use Rattle.mesh_loop.proofs.limits.look_up.Goals as goal

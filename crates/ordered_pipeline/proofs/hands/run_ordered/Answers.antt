@@ -2,6 +2,7 @@ use Rattle.std.proofs.Common.{sym, subst, get_or}
 use denote.Exit.{no}
 use denote.Param.Send.{param_send, arg_send, param_sync, arg_sync}
 use Rattle.ordered_pipeline.specs.Hands.{IsReady, IsThrough}
+use Rattle.ordered_pipeline.proofs.HandLaws.{finished_all}
 use Rattle.ordered_pipeline.proofs.hands.run_ordered.Goals as goal
 
 pub for_each_mut-requires-clause-accepts : goal.for_each_mut-requires-clause-accepts
@@ -23,3 +24,7 @@ returns-clause-each g c = λ k d lt.
     let ch = (c.for_each_mut.ensures k d lt).1 in
     subst (λ h. IsThrough h.pass h.scratch (get_or c.for_each_mut.new.s k d).pass (get_or c.for_each_mut.new.s k d).scratch) ch.argument_is
     (subst (λ i. IsThrough ch.argument.now.pass ch.argument.now.scratch i.pass i.scratch) ch.left ch.call)
+
+pub returns-clause-finished : goal.returns-clause-finished
+returns-clause-finished g c =
+    finished_all (λ h. h.pass) (λ h. h.scratch) c.args.pipeline.now.table c.args.pipeline.now.key c.args.pool.now.table c.args.hands.now c.for_each_mut.new.s (c.for_each_mut.auto.s) c.requires.hands (returns-clause-each g c)

@@ -2,6 +2,7 @@ use Rattle.std.proofs.Common.{arith, ap, ◌∙◌, ◌-◌, ◌+◌, ◌≡◌,
 use Rattle.ordered_pipeline.specs.declared.view.Phase.TheVariants.{Idle}
 use Rattle.ordered_pipeline.specs.Machine.{view, known, dealing}
 use Rattle.ordered_pipeline.proofs.Begins.{dealt_passes}
+use Rattle.ordered_pipeline.proofs.Fresh.{are_fresh}
 use Rattle.ordered_pipeline.specs.Lines.{line_table, line_key}
 use Rattle.ordered_pipeline.proofs.Tied.{dealt_me}
 use Rattle.ordered_pipeline.proofs.pipeline.deal.Goals as goal
@@ -9,7 +10,7 @@ use Rattle.ordered_pipeline.proofs.pipeline.deal.Goals as goal
 pub split-next-requires-after_bounds : goal.split-next-requires-after_bounds
 split-next-requires-after_bounds g c κs within =
     let was = c.loop-number.invariant in
-    (was.0, ap (λ m. m.0.phase) was.1, omega (arith, ap (λ m. m.0.parts) was.1, ap (λ m. m.0.overs) was.1), ap (λ m. m.0.drawn) was.1)
+    (was.0, (ap (λ m. m.0.phase) was.1, ap (λ m. m.0.drawn) was.1, omega (arith, ap (λ m. m.0.parts) was.1, ap (λ m. m.0.overs) was.1)))
 
 pub of-requires-after_bounds : goal.of-requires-after_bounds
 of-requires-after_bounds g c κs within = ((line_key c.args.line.now), dealt_me c.loop-number.seat.me c.split-next.result.me (line_key c.args.line.now) c.split-next.ensures.right.1 (ap (λ m. m.0.key) c.loop-number.invariant.1))
@@ -27,3 +28,8 @@ loop-number-preserved g c =
       omega (arith, c.push_reserved.ensures.len, was.3),
       omega (arith, c.push_reserved.ensures.capacity, was.4),
     )
+
+pub returns-clause-fresh : goal.returns-clause-fresh
+returns-clause-fresh g c =
+    let was = c.loop-number.invariant in
+    (omega (arith, was.3, c.loop-number-test.false, c.loop-number.auto.number-end), are_fresh (line_table c.args.line.now) (line_key c.args.line.now) c.loop-number.number c.loop-number.passes.items was.2)

@@ -6,7 +6,7 @@ use Rattle.colored_copier.proofs.round.Round.claim.Goals as goal
 pub invariant_of-pass : goal.invariant_of-pass
 invariant_of-pass g c =
     let i = c.pass.inside in
-    let key = c.self.inside.table.shared.key in
+    let key = c.self.inside.table.table.shared.key in
     let has-key : i.seat.me.0.key ≡ Some key = ap (λ p. p.key) c.pass.view_is ∙ (c.requires.pass.1 ∙ ap (λ r. Some r.key) (sym c.self.view_is)) in
     let n = c.claim_number-number.result in
     let lt : n < key.items = omega (arith, c.if-number-self.true, c.self.invariant.0.items_is) in
@@ -15,7 +15,7 @@ invariant_of-pass g c =
 pub invariant_of-pass-else-number-self : goal.invariant_of-pass-else-number-self
 invariant_of-pass-else-number-self g c =
     let i = c.pass.inside in
-    let key = c.self.inside.table.shared.key in
+    let key = c.self.inside.table.table.shared.key in
     let has-key : i.seat.me.0.key ≡ Some key = ap (λ p. p.key) c.pass.view_is ∙ (c.requires.pass.1 ∙ ap (λ r. Some r.key) (sym c.self.view_is)) in
     let n = c.claim_number-number.result in
     let le : key.items ≤ n = omega (arith, c.if-number-self.false, c.self.invariant.0.items_is) in

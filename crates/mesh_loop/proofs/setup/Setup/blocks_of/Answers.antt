@@ -9,13 +9,8 @@ get-requires c = kept_listed cell_visits _ c.args.self.now c.args.cell c.self.in
 
 pub fill_blocks-requires-clause-visits : goal.fill_blocks-requires-clause-visits
 fill_blocks-requires-clause-visits c =
-    (visits_within _ c.args.self.now c.args.cell c.get.result.now c.self.view_is c.self.invariant.cells c.requires
-    (c.get.ensures ∙ kept_is cell_visits _ c.args.self.now c.args.cell c.self.inside.parts.visits [] c.self.view_is c.self.invariant.visits c.requires)).within
-
-pub fill_blocks-requires-clause-count : goal.fill_blocks-requires-clause-count
-fill_blocks-requires-clause-count c =
-    (visits_within _ c.args.self.now c.args.cell c.get.result.now c.self.view_is c.self.invariant.cells c.requires
-    (c.get.ensures ∙ kept_is cell_visits _ c.args.self.now c.args.cell c.self.inside.parts.visits [] c.self.view_is c.self.invariant.visits c.requires)).few
+    visits_within _ c.args.self.now c.args.cell c.get.result.now c.self.view_is c.self.invariant.cells c.requires
+    (c.get.ensures ∙ kept_is cell_visits _ c.args.self.now c.args.cell c.self.inside.parts.visits [] c.self.view_is c.self.invariant.visits c.requires)
 
 pub returns-clause-value : goal.returns-clause-value
 returns-clause-value c =
