@@ -16,6 +16,7 @@ from collections import Counter
 from dataclasses import dataclass
 
 from mesh_cases import random_mesh, random_mesh_text
+from msh_cases import BARE as BARE_MSH, random_msh_text
 from problem_cases import random_problem_text
 from programs import add_case_options, add_program_options, in_turn, kept, placed, run_in, told
 from word_cases import random_words
@@ -37,17 +38,18 @@ class Case:
         return self.texts[self.given] if self.given else b""
 
 
-def case_of(seed, number):
-    """Case `number` of a seed, which no other case has a part in."""
+def case_of(seed, number, msh=0.3):
+    """Case `number` of a seed, which no other case has a part in; `msh` is how likely its mesh text is in MSH."""
     rng = random.Random(f"{seed}/{number}")
     where = rng.choices(["none", "mesh", "problem", "words"], [10, 4, 4, 3])[0]
     faults = {name: rng.choice([1, 1, 2]) if name == where else 0 for name in ("mesh", "problem", "words")}
     mesh = random_mesh(rng)
     texts = {"mesh.inp": random_mesh_text(rng, mesh, faults["mesh"]),
+             "mesh.msh": random_msh_text(rng, mesh, faults["mesh"]),
              "problem.txt": random_problem_text(rng, mesh, faults["problem"])}
     if rng.random() < 0.01:
-        texts["mesh.inp"] = rng.choice(BARE)
-    words, given = random_words(rng, faults["words"])
+        texts["mesh.inp"], texts["mesh.msh"] = rng.choice(BARE), rng.choice(BARE_MSH)
+    words, given = random_words(rng, faults["words"], msh)
     return Case(words, texts, given)
 
 
@@ -75,7 +77,7 @@ def kind_of(run):
 
 def both(number, chosen):
     """Runs both programs on one case."""
-    case = case_of(chosen.seed, number)
+    case = case_of(chosen.seed, number, chosen.msh)
     return number, case, [run_case(case, program, chosen.limit) for program in (chosen.program, chosen.peer)]
 
 
@@ -90,16 +92,17 @@ def report(number, case, ours, peers, chosen):
             print(f"  output line {k}: {a[:80]!r} and {b[:80]!r}")
             break
     print(f"  repeat: bench/compare.py --program {chosen.program} --peer {chosen.peer} --seed {chosen.seed} "
-          f"--only {number} --keep FOLDER", flush=True)
+          f"--msh {chosen.msh} --only {number} --keep FOLDER", flush=True)
 
 
 def main():
     parser = argparse.ArgumentParser(description=__doc__, formatter_class=argparse.RawDescriptionHelpFormatter)
     add_program_options(parser, "required")
     add_case_options(parser, count=1000, limit=60.0)
+    parser.add_argument("--msh", type=float, default=0.3, help="how likely a mesh text is in MSH (default 0.3)")
     chosen = parser.parse_args()
     if chosen.only is not None and chosen.keep:
-        case = case_of(chosen.seed, chosen.only)
+        case = case_of(chosen.seed, chosen.only, chosen.msh)
         kept(chosen.keep, case.texts, case.words, case.given)
     kinds, wrong = Counter(), 0
     for number, case, (ours, peers) in in_turn(chosen, lambda number: both(number, chosen)):

@@ -32,6 +32,7 @@ STRIP = b"""6 2 0 0 0
 TIED = b"refine 1\nconstraint 2 = 3\nconstraint 5 = 0.5*1 + 1\nsource 1 1\n"
 UNEVEN = b"diffusion 1 0.00048828125\ndiffusion 2 16384\nsource 1 1\n"
 BOTH = ["--mesh", "mesh.inp", "--problem", "problem.txt"]
+ANGLE = TOP / "examples" / "angle.msh"
 LINE = b"assemble: 12 NoMemory\n"
 
 
@@ -60,6 +61,8 @@ def cases():
     yield "colored, digits", uneven, [*BOTH, "--digits", "24", "--mode", "colored", "--workers", "3"]
     yield "pattern", strip, [*BOTH, "--mode", "pattern"]
     yield "colors", uneven, [*BOTH, "--mode", "colors"]
+    yield "the mesh itself", uneven, [*BOTH, "--mode", "mesh"]
+    yield "a mesh in MSH", {"mesh.msh": ANGLE.read_bytes()}, ["--mesh", "mesh.msh", "--format", "msh"]
     yield "a generated grid", {}, ["--generate", "4", "--summary"]
 
 

@@ -1,6 +1,6 @@
 """Random words of the program: every option in both spellings, and with faults of each kind."""
 
-MODES = ["serial", "serial", "serial", "pattern", "colors", "colored", "ordered"]
+MODES = ["serial", "serial", "serial", "pattern", "colors", "colored", "ordered", "mesh"]
 
 
 def some_settings(rng):
@@ -19,7 +19,7 @@ def some_settings(rng):
 
 def some_outputs(rng, mode):
     """The options that say what is written and where."""
-    sums = mode not in ("pattern", "colors")
+    sums = mode not in ("pattern", "colors", "mesh")
     if sums and rng.random() < 0.2:
         return [("--summary", None)]
     outputs = []
@@ -30,18 +30,24 @@ def some_outputs(rng, mode):
     return outputs
 
 
-def some_sources(rng):
+def some_sources(rng, msh):
     """The options that say what is read, and the name that standard input stands for, if any."""
     kind = rng.random()
     if kind < 0.06:
         seed = [("--seed", rng.choice(["0", "7", "18446744073709551615", str(rng.getrandbits(64))]))]
-        return [("--generate", str(rng.randint(1, 6)))] + (seed if rng.random() < 0.8 else []), None
+        form = [("--format", rng.choice(["ucd", "ucd", "ucd", "msh"]))] if rng.random() < 0.2 else []
+        return [("--generate", str(rng.randint(1, 6)))] + (seed if rng.random() < 0.8 else []) + form, None
     if kind < 0.08:
         name = rng.choice(["absent.inp", ".", "none/mesh.inp"])
         return [("--mesh", name)], None
-    mesh = rng.choice(["mesh.inp", "mesh.inp", "mesh.inp", "-"])
+    name, form = ("mesh.msh", "msh") if rng.random() < msh else ("mesh.inp", "ucd")
+    mesh = rng.choice([name, name, name, "-"])
     chosen = [("--mesh", mesh)]
-    given = "mesh.inp" if mesh == "-" else None
+    if form == "msh" or rng.random() < 0.2:
+        chosen.append(("--format", form))
+    if rng.random() < 0.01:
+        chosen = [("--mesh", mesh), ("--format", rng.choice(["ucd", "msh"]))]
+    given = name if mesh == "-" else None
     if rng.random() < 0.85:
         names = ["problem.txt"] * 12 + ["absent.txt"] + (["-"] * 4 if mesh != "-" else [])
         problem = rng.choice(names)
@@ -57,7 +63,8 @@ EXTRA = [["--fast"], ["--help"], ["--version"], ["--"], ["-"], ["x"], [""], ["--
          ["--chunk=0"], ["--chunk=65"], ["--scratch=0"], ["--scratch=65"], ["--digits=65"], ["--digits=-1"],
          ["--digits=000000000000000000001"], ["--digits=99999999999999999999"], ["--generate=0"], ["--generate=513"],
          ["--seed=18446744073709551616"], ["--seed=1"], ["--summary"], ["--rhs=-"], ["--matrix=-"], ["--mode=ordered"],
-         ["--matrix=r.mtx"], ["--rhs=m.mtx"], ["--problem=-"], ["--mesh=-"], ["--workers=00000000000000000004"]]
+         ["--matrix=r.mtx"], ["--rhs=m.mtx"], ["--format=msh"], ["--format=ucd"], ["--format", "MSH"], ["--format=avs"], ["--format="],
+         ["--mode=mesh"], ["--mode=product"], ["--problem=-"], ["--mesh=-"], ["--workers=00000000000000000004"]]
 
 
 def spelled_words(rng, settings):
@@ -73,9 +80,9 @@ def spelled_words(rng, settings):
     return words
 
 
-def random_words(rng, faults):
-    """Words, and the name of the text that standard input gives or None."""
-    sources, given = some_sources(rng)
+def random_words(rng, faults, msh=0.3):
+    """Words, and the name of the text that standard input gives or None; `msh` is how likely the mesh is in MSH."""
+    sources, given = some_sources(rng, msh)
     settings = some_settings(rng) + sources
     rng.shuffle(settings)
     words = spelled_words(rng, settings)

@@ -16,11 +16,11 @@ same_texts : (a b : Texts) → a.mesh ≡ b.mesh → a.problem ≡ b.problem →
 same_texts a b mesh problem = λ i. record { mesh = mesh i; problem = problem i }
 
 held_known : (held : Held) (source : Source) → AreKnown (Some held) source
-held_known held (texts mesh problem) a b h k = same_texts a b (h.0 ∙ sym k.0) (one_problem_known held problem a.problem b.problem h.1 k.1)
+held_known held (texts mesh format problem) a b h k = same_texts a b (h.0 ∙ sym k.0) (one_problem_known held problem a.problem b.problem h.1 k.1)
 held_known held (generated n seed) a b h k = same_texts a b (h.0 ∙ sym k.0) (h.1 ∙ sym k.1)
 
 generated_known : (holds : Option Held) (source : Source) → IsGenerated source → AreKnown holds source
-generated_known holds (texts mesh problem) is a b h k = absurd is
+generated_known holds (texts mesh format problem) is a b h k = absurd is
 generated_known holds (generated n seed) is a b h k = same_texts a b (h.0 ∙ sym k.0) (h.1 ∙ sym k.1)
 
 pub held_answer : HaveOneAnswerWhereKnown → HaveOneAnswer

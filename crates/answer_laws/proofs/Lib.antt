@@ -11,3 +11,4 @@ mod Refusals
 mod SomeReadings
 mod SomeSums
 mod Some
+mod Formats

@@ -9,16 +9,22 @@ use Rattle.fem_fixed.specs.Mesh.{Mesh}
 use Rattle.ucd_read.specs.declared.fault.UcdKind.{UcdKind}
 use Rattle.ucd_read.specs.Faults.{UcdFault}
 use Rattle.ucd_read.specs.Ucd.{Ucd, UcdFaultAt}
+use Rattle.msh_read.specs.declared.fault.MshKind.{MshKind}
+use Rattle.msh_read.specs.Faults.{MshFault}
+use Rattle.msh_read.specs.Msh.{Msh, MshFaultAt}
+use Rattle.run_words.specs.declared.options.Format.{Format}
+use Rattle.run_words.specs.declared.options.Format.TheVariants as formats
+use Rattle.run_words.specs.Choice.{source_format}
 use Rattle.problem_read.specs.declared.fault.ProblemKind.{ProblemKind}
 use Rattle.problem_read.specs.Entries.{ProblemParts}
 use Rattle.problem_read.specs.Problem.{ProblemText, ProblemFaultAt}
 use Rattle.diagnostics.specs.declared.refusal.Refusal.{Refusal}
 use Rattle.diagnostics.specs.declared.ending.Role.{Role}
 use Rattle.diagnostics.specs.declared.ending.Role.TheVariants as roles
-use Rattle.run_texts.specs.Endings.{of_mesh_text, of_problem_text}
+use Rattle.run_texts.specs.Endings.{of_ucd, of_msh, of_problem_text}
 use Rattle.diagnostics.specs.Stages.{Then}
-use Rattle.run_texts.specs.Texts.{Texts, text_limit, TextFor, MeshIn, ProblemIn, MeshOf, ProblemOf, ReadTexts}
-use Rattle.answer_laws.specs.Parts.{HaveOneReading}
+use Rattle.run_texts.specs.Texts.{Texts, text_limit, TextFor, UcdMesh, MshMesh, MeshIn, ProblemIn, MeshOf, ProblemOf, ReadTexts}
+use Rattle.answer_laws.specs.Parts.{HaveOneMesh, HaveOneReading}
 use Rattle.answer_laws.proofs.Steps.{Agree, one_after, one_said}
 
 not_some : {A P : Type 0} (a : A) → ◌≡◌ {A = Option A} None (Some a) → P
@@ -40,23 +46,45 @@ abbrev Pair : Type 0
 Pair = Result (Mesh × ProblemParts) Refusal
 
 -- Each text has one reading, as the laws of the readers say.
-module _ (one_mesh : (text : List ℕ) (first second : Mesh) → Ucd text first → Ucd text second → first ≡ second)
-    (mesh_fault : (text : List ℕ) (kind other : UcdKind) (line another : ℕ) → UcdFaultAt text kind line → UcdFaultAt text other another → (kind ≡ other) × (line ≡ another))
-    (mesh_no_fault : (text : List ℕ) (mesh : Mesh) (kind : UcdKind) (line : ℕ) → Ucd text mesh → UcdFaultAt text kind line → ⊥)
+module _ (one_ucd : (text : List ℕ) (first second : Mesh) → Ucd text first → Ucd text second → first ≡ second)
+    (ucd_fault : (text : List ℕ) (kind other : UcdKind) (line another : ℕ) → UcdFaultAt text kind line → UcdFaultAt text other another → (kind ≡ other) × (line ≡ another))
+    (ucd_no_fault : (text : List ℕ) (mesh : Mesh) (kind : UcdKind) (line : ℕ) → Ucd text mesh → UcdFaultAt text kind line → ⊥)
+    (one_msh : (text : List ℕ) (first second : Mesh) → Msh text first → Msh text second → first ≡ second)
+    (msh_fault : (text : List ℕ) (kind other : MshKind) (line another : ℕ) → MshFaultAt text kind line → MshFaultAt text other another → (kind ≡ other) × (line ≡ another))
+    (msh_no_fault : (text : List ℕ) (mesh : Mesh) (kind : MshKind) (line : ℕ) → Msh text mesh → MshFaultAt text kind line → ⊥) where
+  same_ucd_end : (text : List ℕ) (f g : UcdFault) → UcdFaultAt text f.kind f.line → UcdFaultAt text g.kind g.line → of_ucd f.kind f.line ≡ of_ucd g.kind g.line
+  same_ucd_end text f g h k = (let s = ucd_fault text f.kind g.kind f.line g.line h k in λ i. of_ucd (s.0 i) (s.1 i))
+
+  one_ucd_mesh : (text : List ℕ) → Agree (UcdMesh text) (UcdMesh text)
+  one_ucd_mesh text (Ok m) (Ok n) h k = ap Ok (one_ucd text m n h k)
+  one_ucd_mesh text (Ok m) (Err q) h k = absurd (ucd_no_fault text m k.0.kind k.0.line h k.1)
+  one_ucd_mesh text (Err r) (Ok n) h k = absurd (ucd_no_fault text n h.0.kind h.0.line k h.1)
+  one_ucd_mesh text (Err r) (Err q) h k =
+      ap Err (one_said (λ (f : UcdFault). of_ucd f.kind f.line) (λ (f : UcdFault). UcdFaultAt text f.kind f.line) (same_ucd_end text) r q h k)
+
+  same_msh_end : (text : List ℕ) (f g : MshFault) → MshFaultAt text f.kind f.line → MshFaultAt text g.kind g.line → of_msh f.kind f.line ≡ of_msh g.kind g.line
+  same_msh_end text f g h k = (let s = msh_fault text f.kind g.kind f.line g.line h k in λ i. of_msh (s.0 i) (s.1 i))
+
+  one_msh_mesh : (text : List ℕ) → Agree (MshMesh text) (MshMesh text)
+  one_msh_mesh text (Ok m) (Ok n) h k = ap Ok (one_msh text m n h k)
+  one_msh_mesh text (Ok m) (Err q) h k = absurd (msh_no_fault text m k.0.kind k.0.line h k.1)
+  one_msh_mesh text (Err r) (Ok n) h k = absurd (msh_no_fault text n h.0.kind h.0.line k h.1)
+  one_msh_mesh text (Err r) (Err q) h k =
+      ap Err (one_said (λ (f : MshFault). of_msh f.kind f.line) (λ (f : MshFault). MshFaultAt text f.kind f.line) (same_msh_end text) r q h k)
+
+  one_mesh_in : (format : Format) (text : List ℕ) → Agree (MeshIn format text) (MeshIn format text)
+  one_mesh_in formats.Ucd text = one_ucd_mesh text
+  one_mesh_in formats.Msh text = one_msh_mesh text
+
+  pub one_mesh_of : HaveOneMesh
+  one_mesh_of format known = one_after (TextFor roles.Mesh known) (TextFor roles.Mesh known) (MeshIn format) (MeshIn format) (one_text roles.Mesh known) (λ text is. one_mesh_in format text)
+
+-- So has each source whose texts are known.
+module _ (one_mesh : HaveOneMesh)
     (one_problem : (text : List ℕ) (first second : ProblemParts) → ProblemText text first → ProblemText text second → first ≡ second)
     (problem_fault : (text : List ℕ) (kind other : ProblemKind) (line another : ℕ) →
     ProblemFaultAt text kind line → ProblemFaultAt text other another → (kind ≡ other) × (line ≡ another))
     (problem_no_fault : (text : List ℕ) (parts : ProblemParts) (kind : ProblemKind) (line : ℕ) → ProblemText text parts → ProblemFaultAt text kind line → ⊥) where
-  same_mesh_end : (text : List ℕ) (f g : UcdFault) → UcdFaultAt text f.kind f.line → UcdFaultAt text g.kind g.line → of_mesh_text f.kind f.line ≡ of_mesh_text g.kind g.line
-  same_mesh_end text f g h k = (let s = mesh_fault text f.kind g.kind f.line g.line h k in λ i. of_mesh_text (s.0 i) (s.1 i))
-
-  one_mesh_in : (text : List ℕ) → Agree (MeshIn text) (MeshIn text)
-  one_mesh_in text (Ok m) (Ok n) h k = ap Ok (one_mesh text m n h k)
-  one_mesh_in text (Ok m) (Err q) h k = absurd (mesh_no_fault text m k.0.kind k.0.line h k.1)
-  one_mesh_in text (Err r) (Ok n) h k = absurd (mesh_no_fault text n h.0.kind h.0.line k h.1)
-  one_mesh_in text (Err r) (Err q) h k =
-      ap Err (one_said (λ (f : UcdFault). of_mesh_text f.kind f.line) (λ (f : UcdFault). UcdFaultAt text f.kind f.line) (same_mesh_end text) r q h k)
-
   same_problem_end : (text : List ℕ) (f g : TextFault ProblemKind) → ProblemFaultAt text f.kind f.line → ProblemFaultAt text g.kind g.line →
       of_problem_text f.kind f.line ≡ of_problem_text g.kind g.line
   same_problem_end text f g h k =
@@ -69,20 +97,17 @@ module _ (one_mesh : (text : List ℕ) (first second : Mesh) → Ucd text first 
   one_problem_in text (Err r) (Err q) h k =
       ap Err (one_said (λ (f : TextFault ProblemKind). of_problem_text f.kind f.line) (λ (f : TextFault ProblemKind). ProblemFaultAt text f.kind f.line) (same_problem_end text) r q h k)
 
-  one_mesh_of : (known : Option (List ℕ)) → Agree (MeshOf known) (MeshOf known)
-  one_mesh_of known = one_after (TextFor roles.Mesh known) (TextFor roles.Mesh known) MeshIn MeshIn (one_text roles.Mesh known) (λ text is. one_mesh_in text)
-
   one_problem_of : (known : Option (List ℕ)) → Agree (ProblemOf known) (ProblemOf known)
   one_problem_of known = one_after (TextFor roles.Problem known) (TextFor roles.Problem known) ProblemIn ProblemIn (one_text roles.Problem known) (λ text is. one_problem_in text)
 
-  one_read_texts : (known : Texts) → Agree (ReadTexts known) (ReadTexts known)
-  one_read_texts known =
+  one_read_texts : (format : Format) (known : Texts) → Agree (ReadTexts format known) (ReadTexts format known)
+  one_read_texts format known =
       let next : Mesh → Pair → Type 0 = λ mesh. Then (ProblemOf known.problem) (λ problem outcome. outcome ≡ Ok (mesh, problem)) in
-      one_after (MeshOf known.mesh) (MeshOf known.mesh) next next (one_mesh_of known.mesh)
+      one_after (MeshOf format known.mesh) (MeshOf format known.mesh) next next (one_mesh format known.mesh)
       (λ mesh is. let last : ProblemParts → Pair → Type 0 = λ problem outcome. outcome ≡ Ok (mesh, problem) in
       one_after (ProblemOf known.problem) (ProblemOf known.problem) last last (one_problem_of known.problem) (λ problem made a b h k. h ∙ sym k))
 
   pub one_read : HaveOneReading
   one_read holds source known a b h k =
-      let P : Texts → Type 0 = λ both. ReadTexts both a in
-      one_read_texts k.0 a b (subst P (known h.0 k.0 h.1 k.1) h.2) k.2
+      let P : Texts → Type 0 = λ both. ReadTexts (source_format source) both a in
+      one_read_texts (source_format source) k.0 a b (subst P (known h.0 k.0 h.1 k.1) h.2) k.2

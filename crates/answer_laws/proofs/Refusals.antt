@@ -13,6 +13,9 @@ use Rattle.fem_text.proofs.OneReading.{err_same}
 use Rattle.ucd_read.specs.Faults.{UcdFault}
 use Rattle.ucd_read.specs.declared.fault.UcdKind.{UcdKind}
 use Rattle.ucd_read.specs.declared.fault.UcdKind.TheVariants as ucd
+use Rattle.msh_read.specs.Faults.{MshFault}
+use Rattle.msh_read.specs.declared.fault.MshKind.{MshKind}
+use Rattle.msh_read.specs.declared.fault.MshKind.TheVariants as msh
 use Rattle.problem_read.specs.declared.fault.ProblemKind.{ProblemKind}
 use Rattle.problem_read.specs.declared.fault.ProblemKind.TheVariants as problems
 use Rattle.problem_read.specs.Entries.{ProblemParts}
@@ -31,7 +34,11 @@ use Rattle.sparsity.specs.declared.rows.Row.{Row}
 use Rattle.mesh_visits.specs.declared.flags.Interior.{Interior}
 use Rattle.mesh_loop.specs.Setup.{MeshProblem}
 use Rattle.run_words.specs.declared.options.Mode.{Mode}
-use Rattle.run_words.specs.Choice.{Choice, Source}
+use Rattle.run_words.specs.declared.options.Mode.TheVariants as modes
+use Rattle.run_words.specs.declared.options.SystemMode.{SystemMode}
+use Rattle.run_words.specs.declared.options.Format.{Format}
+use Rattle.run_words.specs.declared.options.Format.TheVariants as formats
+use Rattle.run_words.specs.Choice.{Choice, Output, Source, source_format}
 use Rattle.run_outputs.specs.Targets.{Target}
 use Rattle.diagnostics.specs.declared.ending.Role.{Role}
 use Rattle.diagnostics.specs.declared.ending.Role.TheVariants as roles
@@ -39,17 +46,18 @@ use Rattle.diagnostics.specs.declared.refusal.Refusal.{Refusal}
 use Rattle.diagnostics.specs.declared.refusal.Refusal.TheVariants.{Words, MeshText, ProblemText, Mesh, Constraint, Local, Sum, Limit, Absent}
 use Rattle.diagnostics.specs.declared.ending.Ending.{Ending}
 use Rattle.diagnostics.specs.declared.ending.Ending.TheVariants as endings
-use Rattle.run_texts.specs.Endings.{of_mesh_text, of_problem_text}
+use Rattle.run_texts.specs.Endings.{of_ucd, of_msh, of_problem_text}
 use Rattle.system_setup.specs.Endings.{of_mesh, of_refining, of_constraints}
 use Rattle.system_texts.specs.Endings.{of_sum}
 use Rattle.diagnostics.specs.Lines.{status_of}
 use Rattle.diagnostics.specs.Stages.{Then, stops, goes, Says}
-use Rattle.run_texts.specs.Texts.{Texts, TextFor, MeshIn, ProblemIn, ReadTexts}
+use Rattle.run_texts.specs.Texts.{Texts, TextFor, UcdMesh, MshMesh, MeshIn, ProblemIn, ReadTexts}
 use Rattle.run_texts.specs.Read.{SourceRead}
 use Rattle.system_setup.specs.SetUp.{CoarseOf, RefinedFrom, LinesFor, PatternedFor, IsSetUp}
 use Rattle.system_texts.specs.Sums.{SummedBy, Summed}
 use Rattle.system_texts.specs.Texts.{TextsOf}
-use Rattle.assemble_core.specs.Answer.{interior_of, AreRefused, Asked, Assembled, Defines, Answers}
+use Rattle.assemble_core.specs.Answer.{AreRefused, Asked, Answers}
+use Rattle.run_targets.specs.Defines.{interior_of, MeshTexts, Assembled, Made, Defines}
 use Rattle.assemble_core.specs.Run as run
 use Rattle.assemble_core.specs.Run.{Outside, Leaves}
 use Rattle.answer_laws.specs.Runs.{RefusedWordsHaveStatus2}
@@ -67,17 +75,30 @@ says_keeps : {F : Type 0} (ending_of : F → Ending) (has : F → Type 0) → ((
 says_keeps ending_of has apart refusal (fault, is, e) same = apart fault (e ∙ ap endings.Refused same)
 
 -- the faults of each layer
-mesh_text_keeps : (kind : UcdKind) (line : ℕ) → of_mesh_text kind line ≢ endings.Refused Words
-mesh_text_keeps ucd.Header line = (λ e. cc)
-mesh_text_keeps ucd.NodeLine line = (λ e. cc)
-mesh_text_keeps ucd.CellLine line = (λ e. cc)
-mesh_text_keeps ucd.Number line = (λ e. cc)
-mesh_text_keeps ucd.DuplicateId line = (λ e. cc)
-mesh_text_keeps ucd.UnknownNode line = (λ e. cc)
-mesh_text_keeps ucd.UnsupportedType line = (λ e. cc)
-mesh_text_keeps ucd.TooFew line = (λ e. cc)
-mesh_text_keeps ucd.Limit line = (λ e. cc)
-mesh_text_keeps ucd.NoMemory line = (λ e. cc)
+ucd_text_keeps : (kind : UcdKind) (line : ℕ) → of_ucd kind line ≢ endings.Refused Words
+ucd_text_keeps ucd.Header line = (λ e. cc)
+ucd_text_keeps ucd.NodeLine line = (λ e. cc)
+ucd_text_keeps ucd.CellLine line = (λ e. cc)
+ucd_text_keeps ucd.Number line = (λ e. cc)
+ucd_text_keeps ucd.DuplicateId line = (λ e. cc)
+ucd_text_keeps ucd.UnknownNode line = (λ e. cc)
+ucd_text_keeps ucd.UnsupportedType line = (λ e. cc)
+ucd_text_keeps ucd.TooFew line = (λ e. cc)
+ucd_text_keeps ucd.Limit line = (λ e. cc)
+ucd_text_keeps ucd.NoMemory line = (λ e. cc)
+
+msh_text_keeps : (kind : MshKind) (line : ℕ) → of_msh kind line ≢ endings.Refused Words
+msh_text_keeps msh.Format line = (λ e. cc)
+msh_text_keeps msh.NodeLine line = (λ e. cc)
+msh_text_keeps msh.ElementLine line = (λ e. cc)
+msh_text_keeps msh.Number line = (λ e. cc)
+msh_text_keeps msh.DuplicateId line = (λ e. cc)
+msh_text_keeps msh.UnknownNode line = (λ e. cc)
+msh_text_keeps msh.UnsupportedType line = (λ e. cc)
+msh_text_keeps msh.TooFew line = (λ e. cc)
+msh_text_keeps msh.Limit line = (λ e. cc)
+msh_text_keeps msh.Section line = (λ e. cc)
+msh_text_keeps msh.NoMemory line = (λ e. cc)
 
 problem_text_keeps : (kind : ProblemKind) (line : ℕ) → of_problem_text kind line ≢ endings.Refused Words
 problem_text_keeps problems.Word line = (λ e. cc)
@@ -120,8 +141,15 @@ text_keeps : (role : Role) (known : Option (List ℕ)) → KeepsWords (TextFor r
 text_keeps role None refusal is same = (let e : Absent role ≡ Words = sym is ∙ same in cc)
 text_keeps role (Some text) refusal is same = (let e : Limit _ ≡ Words = sym is.1 ∙ same in cc)
 
-mesh_keeps : (text : List ℕ) → KeepsWords (MeshIn text)
-mesh_keeps text refusal is = says_keeps _ _ (λ (fault : UcdFault). mesh_text_keeps fault.kind fault.line) refusal is
+ucd_keeps : (text : List ℕ) → KeepsWords (UcdMesh text)
+ucd_keeps text refusal is = says_keeps _ _ (λ (fault : UcdFault). ucd_text_keeps fault.kind fault.line) refusal is
+
+msh_keeps : (text : List ℕ) → KeepsWords (MshMesh text)
+msh_keeps text refusal is = says_keeps _ _ (λ (fault : MshFault). msh_text_keeps fault.kind fault.line) refusal is
+
+mesh_keeps : (format : Format) (text : List ℕ) → KeepsWords (MeshIn format text)
+mesh_keeps formats.Ucd text = ucd_keeps text
+mesh_keeps formats.Msh text = msh_keeps text
 
 problem_keeps : (text : List ℕ) → KeepsWords (ProblemIn text)
 problem_keeps text refusal is = says_keeps _ _ (λ (fault : TextFault ProblemKind). problem_text_keeps fault.kind fault.line) refusal is
@@ -129,13 +157,13 @@ problem_keeps text refusal is = says_keeps _ _ (λ (fault : TextFault ProblemKin
 pair_keeps : (mesh : MeshParts) (problem : ProblemParts) → KeepsWords (λ (outcome : Result (MeshParts × ProblemParts) Refusal). outcome ≡ Ok (mesh, problem))
 pair_keeps mesh problem refusal e same = cc
 
-reading_keeps : (known : Texts) → KeepsWords (ReadTexts known)
-reading_keeps known =
-    then_keeps _ _ (then_keeps (TextFor roles.Mesh known.mesh) MeshIn (text_keeps roles.Mesh known.mesh) mesh_keeps)
+reading_keeps : (format : Format) (known : Texts) → KeepsWords (ReadTexts format known)
+reading_keeps format known =
+    then_keeps _ _ (then_keeps (TextFor roles.Mesh known.mesh) (MeshIn format) (text_keeps roles.Mesh known.mesh) (mesh_keeps format))
     (λ mesh. then_keeps _ _ (then_keeps (TextFor roles.Problem known.problem) ProblemIn (text_keeps roles.Problem known.problem) problem_keeps) (pair_keeps mesh))
 
 source_keeps : (holds : Option Held) (source : Source) → KeepsWords (SourceRead holds source)
-source_keeps holds source refusal (known, are, is) = reading_keeps known refusal is
+source_keeps holds source refusal (known, are, is) = reading_keeps (source_format source) known refusal is
 
 -- the set-up
 coarse_mesh_keeps : (points : List Point) (quads : List QuadSpec) (lines : List LineSpec) → KeepsWords (CoarseOf points quads lines)
@@ -157,21 +185,28 @@ set_up_keeps interior parts problem =
     (λ forest. then_keeps _ _ (lines_keep parts.ids problem forest) (pattern_keeps interior problem forest)))
 
 -- the sums and their texts
-sum_keeps : (mode : Mode) (digits : ℕ) (s : MeshProblem) → KeepsWords (SummedBy mode digits s)
+sum_keeps : (mode : SystemMode) (digits : ℕ) (s : MeshProblem) → KeepsWords (SummedBy mode digits s)
 sum_keeps mode digits s refusal (order, of, is) = says_keeps _ _ sums_keep refusal is
 
-all_sums_keep : (mode : Mode) (digits : ℕ) (s : MeshProblem) → KeepsWords (Summed mode digits s)
+all_sums_keep : (mode : SystemMode) (digits : ℕ) (s : MeshProblem) → KeepsWords (Summed mode digits s)
 all_sums_keep mode digits s refusal is = sum_keeps mode digits s refusal is
 
-targets_keep : (choice : Choice) (s : MeshProblem) (rows : Option (List Row)) → KeepsWords (TextsOf choice.mode choice.output s rows)
-targets_keep choice s rows refusal is same = is
+targets_keep : (mode : SystemMode) (output : Output) (s : MeshProblem) (rows : Option (List Row)) → KeepsWords (TextsOf mode output s rows)
+targets_keep mode output s rows refusal is same = is
 
-assembled_keeps : (choice : Choice) (read : MeshParts × ProblemParts) → KeepsWords (Assembled choice read)
-assembled_keeps choice read =
-    then_keeps _ _ (set_up_keeps (interior_of choice.faces) read.0 read.1) (λ s. then_keeps _ _ (all_sums_keep choice.mode choice.digits s) (targets_keep choice s))
+assembled_keeps : (mode : SystemMode) (choice : Choice) (read : MeshParts × ProblemParts) → KeepsWords (Assembled mode choice read)
+assembled_keeps mode choice read =
+    then_keeps _ _ (set_up_keeps (interior_of choice.faces) read.0 read.1) (λ s. then_keeps _ _ (all_sums_keep mode choice.digits s) (targets_keep mode choice.output s))
+
+mesh_texts_keep : (output : Output) (mesh : MeshParts) → KeepsWords (MeshTexts output mesh)
+mesh_texts_keep output mesh refusal is same = cc
+
+made_keeps : (mode : Mode) (choice : Choice) (read : MeshParts × ProblemParts) → KeepsWords (Made mode choice read)
+made_keeps (modes.System mode) choice read = assembled_keeps mode choice read
+made_keeps modes.Mesh choice read = mesh_texts_keep choice.output read.0
 
 defines_keeps : (holds : Option Held) (choice : Choice) → KeepsWords (Defines holds choice)
-defines_keeps holds choice = then_keeps _ _ (source_keeps holds choice.source) (assembled_keeps choice)
+defines_keeps holds choice = then_keeps _ _ (source_keeps holds choice.source) (made_keeps choice.mode choice)
 
 -- of all statuses of refusals, 2 is that of words alone
 two_is_words : (refusal : Refusal) → ◌≡◌ {A = ℕ} (status_of refusal) 2 → refusal ≡ Words

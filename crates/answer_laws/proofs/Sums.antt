@@ -16,8 +16,8 @@ use Rattle.serial_sum.specs.declared.sum.Failure.TheVariants.{Local, Sum}
 use Rattle.sparsity.specs.declared.rows.Row.{Row}
 use Rattle.mesh_loop.specs.Setup.{MeshProblem, cells_of, pattern_of, written_rows}
 use Rattle.mesh_loop.specs.Sum.{parts_of}
-use Rattle.run_words.specs.declared.options.Mode.{Mode}
-use Rattle.run_words.specs.declared.options.Mode.TheVariants as modes
+use Rattle.run_words.specs.declared.options.SystemMode.{SystemMode}
+use Rattle.run_words.specs.declared.options.SystemMode.TheVariants as modes
 use Rattle.diagnostics.specs.declared.refusal.Refusal.{Refusal}
 use Rattle.diagnostics.specs.declared.ending.Ending.{Ending}
 use Rattle.diagnostics.specs.declared.ending.Ending.TheVariants.{Refused, NoMemory}
@@ -55,7 +55,7 @@ same_written : (s t : MeshProblem) → IsSameSystem s t → map (written_rows s)
 same_written s t same = ap (λ (rows : ℕ → List ℕ). map rows (cells_of s)) (fun_ext same.rows) ∙ ap (map (written_rows t)) same.cells
 
 -- a mode with an order has sums
-has_sums : {P : Type 0} (mode : Mode) (s : MeshProblem) (order : List ℕ) → IsOrderOf mode s order → HasNoSums mode → P
+has_sums : {P : Type 0} (mode : SystemMode) (s : MeshProblem) (order : List ℕ) → IsOrderOf mode s order → HasNoSums mode → P
 has_sums modes.Serial s order h none = absurd none
 has_sums modes.Ordered s order h none = absurd none
 has_sums modes.Colored s order h none = absurd none
@@ -88,18 +88,18 @@ module _ (one_sum : HaveOneSum) (one_coloring : HaveOneColoring) where
       let P : List (List ℕ) → Type 0 = λ rows. IsColoring rows c in
       one_coloring (map (written_rows t) (cells_of t)) c d (subst P (same_written s t same) h) k
 
-  one_order : (mode : Mode) (s t : MeshProblem) → IsSameSystem s t → (order other : List ℕ) → IsOrderOf mode s order → IsOrderOf mode t other → order ≡ other
+  one_order : (mode : SystemMode) (s t : MeshProblem) → IsSameSystem s t → (order other : List ℕ) → IsOrderOf mode s order → IsOrderOf mode t other → order ≡ other
   one_order modes.Serial s t same order other h k = h ∙ same.cells ∙ sym k
   one_order modes.Ordered s t same order other h k = h ∙ same.cells ∙ sym k
   one_order modes.Colored s t same order other (c, is, e) (d, at, f) = e ∙ ap (λ (x : Coloring). x.order) (same_coloring s t same c d is at) ∙ sym f
   one_order modes.Pattern s t same order other h k = absurd h
   one_order modes.Colors s t same order other h k = absurd h
 
-  one_summed_by : (mode : Mode) (digits : ℕ) (s t : MeshProblem) → IsSameSystem s t → Agree (SummedBy mode digits s) (SummedBy mode digits t)
+  one_summed_by : (mode : SystemMode) (digits : ℕ) (s t : MeshProblem) → IsSameSystem s t → Agree (SummedBy mode digits s) (SummedBy mode digits t)
   one_summed_by mode digits s t same a b (order, is, h) (other, at, k) =
       one_summed_in order other digits s t same (one_order mode s t same order other is at) a b h k
 
-  pub one_summed : (mode : Mode) (digits : ℕ) (s t : MeshProblem) → IsSameSystem s t → Agree (Summed mode digits s) (Summed mode digits t)
+  pub one_summed : (mode : SystemMode) (digits : ℕ) (s t : MeshProblem) → IsSameSystem s t → Agree (Summed mode digits s) (Summed mode digits t)
   one_summed mode digits s t same (Ok (Some a)) (Ok (Some b)) h k =
       ap (λ (rows : List Row). Ok (Some rows)) (ok_same {K = Refusal} a b (one_summed_by mode digits s t same (Ok a) (Ok b) h k))
   one_summed mode digits s t same (Ok (Some a)) (Ok None) h k = has_sums mode s h.0 h.1 k

@@ -17,7 +17,7 @@ HaveOneAnswer =
 
 -- no text of the source is read
 abbrev pub IsGenerated : Source → Type 0
-IsGenerated (texts mesh problem) = ⊥
+IsGenerated (texts mesh format problem) = ⊥
 IsGenerated (generated n seed) = Unit {0}
 
 -- the words ask for nothing whose texts are read: they are refused, or ask for a generated grid

@@ -1,4 +1,5 @@
 pub mod Laws
 pub mod Runs
 pub mod Existence
+pub mod Formats
 pub mod Parts

@@ -7,9 +7,11 @@ use Rattle.fem_text.specs.Outside.{Held}
 use Rattle.problem_read.specs.Entries.{ProblemParts}
 use Rattle.mesh_loop.specs.Setup.{MeshProblem}
 use Rattle.run_words.specs.declared.options.Mode.{Mode}
+use Rattle.run_words.specs.declared.options.SystemMode.{SystemMode}
+use Rattle.run_words.specs.declared.options.Format.{Format}
 use Rattle.run_words.specs.Choice.{Choice, Source}
 use Rattle.run_outputs.specs.Targets.{Target}
-use Rattle.run_texts.specs.Texts.{Texts, AreTextsOf}
+use Rattle.run_texts.specs.Texts.{Texts, AreTextsOf, MeshOf}
 use Rattle.run_texts.specs.Read.{SourceRead}
 use Rattle.diagnostics.specs.declared.refusal.Refusal.{Refusal}
 use Rattle.diagnostics.specs.Stages.{HasOneOutcome}
@@ -21,6 +23,10 @@ use Rattle.assemble_core.specs.Answer.{Asked, Answers}
 abbrev pub AreKnown : Option Held → Source → Type 0
 AreKnown holds source = (a b : Texts) → AreTextsOf holds source a → AreTextsOf holds source b → a ≡ b
 
+-- a mesh text in a format has one mesh, or one refusal
+abbrev pub HaveOneMesh : Type 0
+HaveOneMesh = (format : Format) (known : Option (List ℕ)) → HasOneOutcome (MeshOf format known)
+
 -- a source whose texts are known has one mesh and one problem, or one refusal
 abbrev pub HaveOneReading : Type 0
 HaveOneReading = (holds : Option Held) (source : Source) → AreKnown holds source → HasOneOutcome (SourceRead holds source)
@@ -28,7 +34,7 @@ HaveOneReading = (holds : Option Held) (source : Source) → AreKnown holds sour
 -- set-ups of one system have the same texts, or the same refusal
 abbrev pub HaveOneListOfTexts : Type 0
 HaveOneListOfTexts =
-    (choice : Choice) (s t : MeshProblem) → IsSameSystem s t → (a b : Result (List Target) Refusal) → SystemTexts choice s a → SystemTexts choice t b → a ≡ b
+    (mode : SystemMode) (choice : Choice) (s t : MeshProblem) → IsSameSystem s t → (a b : Result (List Target) Refusal) → SystemTexts mode choice s a → SystemTexts mode choice t b → a ≡ b
 
 -- words have one answer where the texts of what they ask for are known
 abbrev pub HaveOneAnswerWhereKnown : Type 0
@@ -42,4 +48,4 @@ HaveAReading = (holds : Option Held) (source : Source) → (outcome : Result (Me
 
 -- a set-up has texts, or a refusal
 abbrev pub HaveAListOfTexts : Type 0
-HaveAListOfTexts = (choice : Choice) (s : MeshProblem) → (outcome : Result (List Target) Refusal) × SystemTexts choice s outcome
+HaveAListOfTexts = (mode : SystemMode) (choice : Choice) (s : MeshProblem) → (outcome : Result (List Target) Refusal) × SystemTexts mode choice s outcome

@@ -1,9 +1,11 @@
 ghost use Rattle.answer_laws.specs.Laws.{HaveOneAnswer, HaveOneAnswerWithoutTexts};
 ghost use Rattle.answer_laws.specs.Runs.{DefinedTextsAreWritten, DefinedRefusalsAreTold, ZeroTellsTheTexts, OthersTellTheRefusal, FaultsStopRuns, RunsAreComplete, RefusedWordsHaveStatus2};
 ghost use Rattle.answer_laws.specs.Existence.{HaveAnAnswer};
+ghost use Rattle.answer_laws.specs.Formats.{FormatsHaveOneAnswer, FormatsWriteTheSame};
 
 use crate::parts::{
-    known_texts_have_one_answer, sources_have_a_reading, systems_have_a_list_of_texts,
+    known_texts_have_one_answer, mesh_texts_have_one_reading, sources_have_a_reading,
+    systems_have_a_list_of_texts,
 };
 use system_laws::{a_mesh_has_a_set_up, texts_have_quadrilaterals};
 
@@ -90,4 +92,22 @@ pub fn words_have_an_answer()
     texts_have_quadrilaterals();
     a_mesh_has_a_set_up();
     systems_have_a_list_of_texts();
+}
+
+/// Words that ask for the same, one list on a mesh text and the other on a text of the same mesh under another name or in the
+/// other format, have the same answer, where each other text that they read is the same: in each mode the same texts for the
+/// same destinations, or the same refusal.
+pub fn formats_have_one_answer()
+    ensures { FormatsHaveOneAnswer }
+{
+    run_words::one_reading();
+    mesh_texts_have_one_reading();
+}
+
+/// Runs of such words with status 0 write the same texts.
+pub fn formats_write_the_same()
+    ensures { FormatsWriteTheSame }
+{
+    formats_have_one_answer();
+    a_status_tells_the_answer();
 }

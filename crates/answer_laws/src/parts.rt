@@ -1,14 +1,22 @@
-ghost use Rattle.answer_laws.specs.Parts.{HaveOneReading, HaveOneListOfTexts, HaveOneAnswerWhereKnown, HaveAReading, HaveAListOfTexts};
+ghost use Rattle.answer_laws.specs.Parts.{HaveOneMesh, HaveOneReading, HaveOneListOfTexts, HaveOneAnswerWhereKnown, HaveAReading, HaveAListOfTexts};
 
 use conflict_coloring::{cells_have_a_coloring, cells_have_one_coloring};
 use serial_sum::{sum_exists, sum_is_unique};
 use system_laws::a_mesh_has_one_system;
 
+/// A mesh text in a format has one mesh, or one refusal.
+pub(crate) fn mesh_texts_have_one_reading()
+    ensures { HaveOneMesh }
+{
+    ucd_read::one_reading();
+    msh_read::one_reading();
+}
+
 /// A source whose texts are known has one mesh and one problem, or one refusal.
 fn sources_have_one_reading()
     ensures { HaveOneReading }
 {
-    ucd_read::one_reading();
+    mesh_texts_have_one_reading();
     problem_read::one_reading();
 }
 
@@ -35,6 +43,7 @@ pub(crate) fn sources_have_a_reading()
     ensures { HaveAReading }
 {
     ucd_read::one_reading();
+    msh_read::one_reading();
     problem_read::one_reading();
 }
 

@@ -1,103 +1,24 @@
 -- How runs end.
-use Rattle.std.proofs.Common.{◌≡◌, ◌∙◌, sym, ap, refl, subst, ℕ, List, Bool, inl, inr, length, ◌≤◌, arith}
-use Rattle.std.specs.Prelude.{Ok, Err, IfOk, IfErr, OnOk}
+use Rattle.std.proofs.Common.{◌≡◌, ◌∙◌, ap, refl, subst, ℕ, List, Bool, inl, inr}
+use Rattle.std.specs.Prelude.{Ok, Err, IfErr, OnOk}
 use Rattle.std.specs.declared.option.Option.{Option}
 use Rattle.std.specs.declared.result.Result.{Result}
-use Rattle.fem_fixed.specs.Mesh.{Mesh}
 use Rattle.fem_text.specs.declared.counts.Counts.{Counts}
 use Rattle.fem_text.specs.Counts.{after_good}
 use Rattle.fem_text.specs.Outside.{Held}
-use Rattle.problem_read.specs.Entries.{ProblemParts}
 use Rattle.run_words.specs.declared.options.Mode.{Mode}
 use Rattle.run_words.specs.Choice.{Choice, Source}
-use Rattle.run_texts.specs.Read.{SourceRead, EndsReading, ReadsMade, names_in}
+use Rattle.run_texts.specs.Read.{ReadsMade, names_in}
 use Rattle.run_outputs.specs.Targets.{Target, World, after_targets}
 use Rattle.run_outputs.specs.Stops.{StopsAmong}
-use Rattle.diagnostics.specs.declared.refusal.Refusal.{Refusal}
 use Rattle.diagnostics.specs.declared.refusal.Refusal.TheVariants.{Words}
 use Rattle.diagnostics.specs.declared.ending.Ending.{Ending}
 use Rattle.diagnostics.specs.declared.ending.Ending.TheVariants.{Refused, ReadFault, WriteFault, NoMemory}
-use Rattle.diagnostics.specs.Stages.{stops, goes, EndsIn}
-use Rattle.system_setup.specs.SetUp.{IsSetUp}
-use Rattle.system_texts.specs.Sums.{Summed}
-use Rattle.system_texts.specs.Texts.{AreTargets}
-use Rattle.sparsity.specs.declared.rows.Row.{Row}
-use Rattle.mesh_loop.specs.Setup.{MeshProblem, pattern_of}
-use Rattle.std.specs.List.{concat}
-use Rattle.assemble_core.proofs.Setups.{few_entries}
-use Rattle.assemble_core.specs.Answer.{interior_of, Asked, Defines, Answers}
-use Rattle.assemble_core.specs.Run.{Prepared, EndsDefining, after_source, Leaves}
-
--- the reading ends the making of the texts
-pub read_defining : (holds : Option Held) (choice : Choice) (e : Ending) → EndsReading holds choice.source e → EndsDefining holds choice e
-read_defining holds choice (Refused refusal) h = stops refusal h refl
-read_defining holds choice (ReadFault role) h = h
-read_defining holds choice (WriteFault output) h = h
-read_defining holds choice NoMemory h = h
-
-abbrev SetUpOf : Choice → (Mesh × ProblemParts) → Result MeshProblem Refusal → Type 0
-SetUpOf choice read = IsSetUp (interior_of choice.faces) read.0 read.1
-
-set_up_defining : (holds : Option Held) (choice : Choice) (read : Mesh × ProblemParts) (e : Ending) → SourceRead holds choice.source (Ok read) → EndsIn (SetUpOf choice read) e → EndsDefining holds choice e
-set_up_defining holds choice read (Refused refusal) r h = goes read r (stops refusal h refl)
-set_up_defining holds choice read (ReadFault role) r h = absurd h
-set_up_defining holds choice read (WriteFault output) r h = h
-set_up_defining holds choice read NoMemory r h = h
-
--- the set-up ends it behind the reading
-pub result_defining : (holds : Option Held) (choice : Choice) (read : Mesh × ProblemParts) (result : Result MeshProblem Ending) → SourceRead holds choice.source (Ok read) →
-    IfErr result (EndsIn (SetUpOf choice read)) → IfErr result (EndsDefining holds choice)
-result_defining holds choice read (Ok s) r h = tt
-result_defining holds choice read (Err e) r h = set_up_defining holds choice read e r h
-
-pub result_prepared : (holds : Option Held) (choice : Choice) (read : Mesh × ProblemParts) (result : Result MeshProblem Ending) → SourceRead holds choice.source (Ok read) →
-    IfOk result (λ s. SetUpOf choice read (Ok s)) → IfOk result (Prepared holds choice)
-result_prepared holds choice read (Ok s) r h = (read, r, h)
-result_prepared holds choice read (Err e) r h = tt
-
-pub result_few : (choice : Choice) (read : Mesh × ProblemParts) (result : Result MeshProblem Ending) → IfOk result (λ s. SetUpOf choice read (Ok s)) →
-    IfOk result (λ s. length (concat (pattern_of s)) ≤ 33554432)
-result_few choice read (Ok s) h = few_entries (interior_of choice.faces) read.0 read.1 s h
-result_few choice read (Err e) h = tt
-
--- the sums end it
-pub sums_defining : (holds : Option Held) (choice : Choice) (s : MeshProblem) (e : Ending) → Prepared holds choice s → EndsIn (Summed choice.mode choice.digits s) e → EndsDefining holds choice e
-sums_defining holds choice s (Refused refusal) (read, r, is) h = goes read r (goes s is (stops refusal h refl))
-sums_defining holds choice s (ReadFault role) p h = absurd h
-sums_defining holds choice s (WriteFault output) p h = h
-sums_defining holds choice s NoMemory p h = h
-
--- the texts of the sums are what the choice defines
-pub texts_defined : {X : Type 0} (holds : Option Held) (choice : Choice) (s : MeshProblem) (rows : Option (List Row)) (f : X → List Target) (result : Result X Ending) → Prepared holds choice s →
-    Summed choice.mode choice.digits s (Ok rows) → IfOk result (λ x. AreTargets choice.mode choice.output s rows (f x)) → IfOk result (λ x. Defines holds choice (Ok (f x)))
-texts_defined holds choice s rows f (Ok x) (read, r, is) sum h = goes read r (goes s is (goes rows sum h))
-texts_defined holds choice s rows f (Err e) p sum h = tt
-
-pub want_defining : {X : Type 0} (holds : Option Held) (choice : Choice) (result : Result X Ending) → IfErr result (λ e. e ≡ NoMemory) → IfErr result (EndsDefining holds choice)
-want_defining holds choice (Ok x) h = tt
-want_defining holds choice (Err e) h = subst (EndsDefining holds choice) (sym h) tt
-
--- all reads of a source are some of them
-some_are_all : (source : Source) → names_in source ≤ names_in source
-some_are_all source = omega arith
-
--- a step without a read ends behind all reads
-pub reads_behind : (X : Type 0) {Y : Type 0} (step : Result Y Refusal → Type 0) (source : Source) (e : Ending) (before now : Counts) → EndsIn step e → now ≡ after_good (names_in source) before →
-    ReadsMade {X = X} source (Err e) before now
-reads_behind X step source (Refused refusal) before now h well = (names_in source, some_are_all source, well)
-reads_behind X step source (ReadFault role) before now h well = absurd h
-reads_behind X step source (WriteFault output) before now h well = (names_in source, some_are_all source, well)
-reads_behind X step source NoMemory before now h well = (names_in source, some_are_all source, well)
-
-pub result_reads : {X Y : Type 0} (step : Result Y Refusal → Type 0) (source : Source) (result : Result X Ending) (before now : Counts) → IfErr result (EndsIn step) →
-    now ≡ after_good (names_in source) before → ReadsMade source result before now
-result_reads {X} step source (Ok value) before now h well = well
-result_reads {X} step source (Err e) before now h well = reads_behind X step source e before now h well
-
-pub want_reads : {X : Type 0} (source : Source) (result : Result X Ending) (before now : Counts) → IfErr result (λ e. e ≡ NoMemory) → now ≡ after_good (names_in source) before →
-    ReadsMade source result before now
-want_reads {X} source (Ok value) before now h well = well
-want_reads {X} source (Err e) before now h well = subst (λ e. ReadsMade {X = X} source (Err e) before now) (sym h) (names_in source, some_are_all source, well)
+use Rattle.diagnostics.specs.Stages.{stops, goes}
+use Rattle.run_targets.specs.Defines.{Defines}
+use Rattle.run_targets.specs.Ends.{EndsDefining}
+use Rattle.assemble_core.specs.Answer.{Asked, Answers}
+use Rattle.assemble_core.specs.Run.{after_source, Leaves}
 
 -- the words are refused
 pub words_leave : (takes : Mode → Bool) (words : List (List ℕ)) (before : World) → Asked takes words (Err Words) → Leaves takes words before before (Err (Refused Words))

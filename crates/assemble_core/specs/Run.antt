@@ -3,34 +3,19 @@ use Rattle.std.specs.Prelude.{◌≡◌, ◌⊎◌, ℕ, List, [], ◌∷◌, Bo
 use Rattle.std.specs.declared.option.Option.{Option}
 use Rattle.std.specs.declared.result.Result.{Result}
 use Rattle.std.specs.List.{list_any}
-use Rattle.fem_fixed.specs.Mesh.{Mesh}
-use Rattle.mesh_loop.specs.Setup.{MeshProblem}
-use Rattle.problem_read.specs.Entries.{ProblemParts}
 use Rattle.fem_text.specs.declared.counts.Counts.{Counts}
 use Rattle.fem_text.specs.Counts.{after_call, after_good}
 use Rattle.fem_text.specs.Outside.{Held}
 use Rattle.run_words.specs.declared.options.Mode.{Mode}
 use Rattle.run_words.specs.Choice.{Choice, Source}
-use Rattle.run_texts.specs.Read.{SourceRead, GoesOnTo, SomeRead, names_in, reads_before}
+use Rattle.run_texts.specs.Read.{GoesOnTo, SomeRead, names_in, reads_before}
 use Rattle.run_outputs.specs.Targets.{Target, World, after_targets}
 use Rattle.run_outputs.specs.Stops.{StopsAmong}
 use Rattle.diagnostics.specs.declared.ending.Role.{Role}
 use Rattle.diagnostics.specs.declared.ending.Ending.{Ending}
 use Rattle.diagnostics.specs.declared.ending.Ending.TheVariants.{Refused, ReadFault, WriteFault, NoMemory}
 use Rattle.diagnostics.specs.Lines.{ending_status, ending_line, TookLine}
-use Rattle.system_setup.specs.SetUp.{IsSetUp}
-use Rattle.assemble_core.specs.Answer.{interior_of, Asked, Defines, Answers}
-
--- the set-up of a choice, over a store that holds this
-abbrev pub Prepared : Option Held → Choice → MeshProblem → Type 0
-Prepared holds choice s = (read : Mesh × ProblemParts) × SourceRead holds choice.source (Ok read) × IsSetUp (interior_of choice.faces) read.0 read.1 (Ok s)
-
--- the making of the texts of a choice ends so
-abbrev pub EndsDefining : Option Held → Choice → Ending → Type 0
-EndsDefining holds choice (Refused refusal) = Defines holds choice (Err refusal)
-EndsDefining holds choice (ReadFault role) = GoesOnTo holds choice.source role
-EndsDefining holds choice (WriteFault output) = ⊥
-EndsDefining holds choice NoMemory = Unit {0}
+use Rattle.assemble_core.specs.Answer.{Asked, Answers}
 
 -- some of the reads that the words name were made, none where they are refused, and all went well
 abbrev pub ReadsWell : (Mode → Bool) → List (List ℕ) → Counts → Counts → Type 0

@@ -5,7 +5,7 @@ ghost use Rattle.diagnostics.specs.declared.refusal.Refusal.TheVariants.{Words};
 ghost use Rattle.assemble_core.specs.Modes.{plain_modes, all_modes};
 ghost use Rattle.assemble_core.specs.Answer.{Asked};
 
-use run_words::{Mode, Options, choices_are_within, one_reading, read_words};
+use run_words::{Mode, Options, SystemMode, choices_are_within, one_reading, read_words};
 
 /// What the words ask of a run that does not wait.
 #[tactic(auto, using(crate::proofs::Asking::other_refused))]
@@ -46,7 +46,8 @@ fn is_plain(mode: Mode) -> bool
     ensures { result ≡ plain_modes mode }
 {
     match mode {
-        Mode::Serial | Mode::Colored | Mode::Pattern | Mode::Colors => true,
-        Mode::Ordered => false,
+        Mode::System(SystemMode::Serial | SystemMode::Colored) => true,
+        Mode::System(SystemMode::Pattern | SystemMode::Colors) | Mode::Mesh => true,
+        Mode::System(SystemMode::Ordered) => false,
     }
 }

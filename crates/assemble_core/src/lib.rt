@@ -1,11 +1,10 @@
-//! The program `assemble`: it reads a mesh and a problem, and writes the system of the problem, its summary, its pattern
-//! or the colours of its cells.
+//! The program `assemble`: it reads a mesh and a problem, and writes the system of the problem, its summary, its pattern,
+//! the colours of its cells, or the mesh.
 #![tactic(auto)]
 
 mod ask;
 mod program;
 mod top;
-mod work;
 
 pub use program::run_program;
 pub use top::{run, run_chosen, run_plain};

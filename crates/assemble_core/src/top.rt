@@ -3,10 +3,10 @@ ghost use Rattle.assemble_core.specs.Modes.{plain_modes, all_modes};
 ghost use Rattle.assemble_core.specs.Run.{Leaves, IsRun, outside};
 
 use crate::ask::{all_options, plain_options};
-use crate::work::{all_targets, plain_targets};
 use diagnostics::{Ending, Refusal};
 use fem_text::{Sink, Store};
 use run_outputs::write_targets;
+use run_targets::{all_targets, plain_targets};
 use run_words::{ordered_is_named, wants_wait};
 use scratch_pool::Gate;
 use std::alloc::Global;
@@ -18,8 +18,8 @@ use std::thread::Threads;
 /// ask for.
 ///
 /// The status is 0 where all was written, and else that of the first fault in the order of work: the words; the mesh text,
-/// read and judged, and then the problem text; the coarse mesh, its steps of refinement, the constraint lines, the pattern; the
-/// sums; the writing.
+/// read and judged in its format, and then the problem text; the coarse mesh, its steps of refinement, the constraint lines,
+/// the pattern; the sums; the writing. The mode `mesh` goes from the problem text to the writing.
 ///
 /// | Status | Where |
 /// |---|---|

@@ -12,7 +12,10 @@ mod steps;
 mod view;
 
 pub use batch::Batch;
-pub use laws::{each_task_is_taken_once, steps_keep_the_rule};
+pub use laws::{
+    batch_states_are_exclusive, batch_steps_are_events, each_task_is_taken_once,
+    steps_keep_the_rule,
+};
 pub use pass::BatchPass;
 pub use run::{Tasks, run_batch};
 pub use view::Taken;

@@ -45,8 +45,11 @@ ending_status NoMemory = 12
 
 abbrev pub mesh_text_word : MeshTextKind → List ℕ
 mesh_text_word mesh_texts.Header = codes "Header"
+mesh_text_word mesh_texts.Format = codes "Format"
+mesh_text_word mesh_texts.Section = codes "Section"
 mesh_text_word mesh_texts.NodeLine = codes "NodeLine"
 mesh_text_word mesh_texts.CellLine = codes "CellLine"
+mesh_text_word mesh_texts.ElementLine = codes "ElementLine"
 mesh_text_word mesh_texts.Number = codes "Number"
 mesh_text_word mesh_texts.DuplicateId = codes "DuplicateId"
 mesh_text_word mesh_texts.UnknownNode = codes "UnknownNode"

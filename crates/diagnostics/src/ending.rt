@@ -29,7 +29,7 @@ impl Role {
 /// A text that a run writes.
 #[derive(Clone, Copy, Debug, PartialEq, Eq)]
 pub enum Output {
-    /// The matrix, or what stands in its place: the pattern, the colours or the summary.
+    /// The matrix, or what stands in its place: the pattern, the colours, the mesh or the summary.
     Matrix,
     /// The right side.
     RightSide,

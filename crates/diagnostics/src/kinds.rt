@@ -1,12 +1,16 @@
 ghost use Rattle.std.specs.Prelude.{◌≡◌};
 ghost use Rattle.diagnostics.specs.Lines as lines;
 
-/// The kinds of fault of a mesh text that aren't limits.
+/// The kinds of fault of a mesh text that aren't limits: of both formats, of UCD alone (`Header`, `CellLine`), or of MSH
+/// alone (`Format`, `ElementLine`, `Section`).
 #[derive(Clone, Copy, Debug, PartialEq, Eq)]
 pub enum MeshTextKind {
     Header,
+    Format,
+    Section,
     NodeLine,
     CellLine,
+    ElementLine,
     Number,
     DuplicateId,
     UnknownNode,
@@ -21,8 +25,11 @@ impl MeshTextKind {
     {
         match self {
             MeshTextKind::Header => b"Header",
+            MeshTextKind::Format => b"Format",
+            MeshTextKind::Section => b"Section",
             MeshTextKind::NodeLine => b"NodeLine",
             MeshTextKind::CellLine => b"CellLine",
+            MeshTextKind::ElementLine => b"ElementLine",
             MeshTextKind::Number => b"Number",
             MeshTextKind::DuplicateId => b"DuplicateId",
             MeshTextKind::UnknownNode => b"UnknownNode",

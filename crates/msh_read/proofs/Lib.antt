@@ -8,3 +8,4 @@ pub mod Bounds
 pub mod Steps
 pub mod Front
 pub mod PassedOver
+pub mod Corners

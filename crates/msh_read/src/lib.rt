@@ -13,4 +13,6 @@ mod sections;
 mod shape;
 
 pub use fault::{MshFault, MshKind};
-pub use reader::{one_reading, other_sections_are_passed_over, read_msh};
+pub use reader::{
+    one_reading, other_sections_are_passed_over, quadrilaterals_have_four_corners, read_msh,
+};

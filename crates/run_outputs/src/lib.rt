@@ -4,5 +4,5 @@
 mod target;
 mod write;
 
-pub use target::Target;
+pub use target::{Target, first_target};
 pub use write::write_targets;

@@ -1,11 +1,12 @@
 // Tables of runs. Each has its words, parted by blanks, and the texts that the store holds under `mesh` and `problem`.
 
 use crate::texts::{
-    DIVIDED_MATRIX, DRAWN, DRAWN_FOUR, DRAWN_FOUR_PROBLEM, DRAWN_MATRIX, DRAWN_PROBLEM, GRID,
-    GRID_COLORS, GRID_MATRIX, GRID_PROBLEM, LARGE, LARGE_PROBLEM, LARGE_SYSTEM, LENIENT_PROBLEM,
-    LENIENT_STRIP, LINED_STRIP, LINED_SYSTEM, LONG, MARKED_STRIP, OTHER_IDS, PLAIN_PROBLEM, SKEW,
-    SKEW_PROBLEM, SKEW_SYSTEM, SQUARE, SQUARE_ALONE, SQUARE_MATRIX, SQUARE_PATTERN, SQUARE_ROBIN,
-    SQUARE_SUMMARY, STRIP, STRIP_MATRIX, TIED_SYSTEM, TINY,
+    ANGLE, ANGLE_PROBLEM, DIVIDED_MATRIX, DRAWN, DRAWN_FOUR, DRAWN_FOUR_PROBLEM, DRAWN_MATRIX,
+    DRAWN_PROBLEM, GRID, GRID_COLORS, GRID_MATRIX, GRID_PROBLEM, LARGE, LARGE_PROBLEM,
+    LARGE_SYSTEM, LENIENT_PROBLEM, LENIENT_STRIP, LINED_STRIP, LINED_SYSTEM, LONG, MARKED_STRIP,
+    MSH_SQUARE, OTHER_IDS, PLAIN_PROBLEM, SKEW, SKEW_PROBLEM, SKEW_SYSTEM, SQUARE, SQUARE_ALONE,
+    SQUARE_MATRIX, SQUARE_PATTERN, SQUARE_ROBIN, SQUARE_SUMMARY, STRIP, STRIP_MATRIX, TIED_SYSTEM,
+    TINY, WRITTEN_ANGLE, WRITTEN_SQUARE,
 };
 
 // The words of a run over the mesh alone, and over both texts.
@@ -17,7 +18,7 @@ pub(crate) const BOTH: &str = "--mesh mesh --problem problem";
 const SYSTEM: &str = "--mesh mesh --problem problem --rhs -";
 
 // Words, mesh, problem, and the text on standard output.
-pub(crate) const WRITTEN: [(&str, &str, &str, &str); 26] = [
+pub(crate) const WRITTEN: [(&str, &str, &str, &str); 32] = [
     (MESH, SQUARE, "", SQUARE_MATRIX),
     ("--mode serial --mesh mesh", SQUARE, "", SQUARE_MATRIX),
     (
@@ -83,6 +84,28 @@ pub(crate) const WRITTEN: [(&str, &str, &str, &str); 26] = [
         "dirichlet 7 1\ndirichlet 3 2\n",
         LINED_SYSTEM,
     ),
+    ("--mesh mesh --format msh", MSH_SQUARE, "", SQUARE_MATRIX),
+    (
+        "--format=ucd --mesh=mesh --mode=mesh",
+        SQUARE,
+        "",
+        WRITTEN_SQUARE,
+    ),
+    // (a step of refinement doesn't change the mesh that is written, and no fault of its cells is looked for)
+    (
+        "--mesh mesh --mode mesh --problem problem",
+        SQUARE,
+        "refine 0\nrefine 9\n",
+        WRITTEN_SQUARE,
+    ),
+    ("--mode mesh --mesh mesh", "0 0 0 0 0\n", "", "0 0 0 0 0\n"),
+    (
+        "--mesh mesh --format msh --mode mesh",
+        ANGLE,
+        "",
+        WRITTEN_ANGLE,
+    ),
+    ("--mode mesh --mesh mesh", WRITTEN_ANGLE, "", WRITTEN_ANGLE),
     // (worked from the formats by another program)
     (
         "--mesh mesh --problem problem --summary",
@@ -93,7 +116,7 @@ pub(crate) const WRITTEN: [(&str, &str, &str, &str); 26] = [
 ];
 
 // Words, mesh, problem, and some of the lines on standard output.
-pub(crate) const SOME_LINES: [(&str, &str, &str, &[&str]); 6] = [
+pub(crate) const SOME_LINES: [(&str, &str, &str, &[&str]); 7] = [
     (
         "--generate 64 --seed 7 --summary",
         "",
@@ -128,6 +151,12 @@ pub(crate) const SOME_LINES: [(&str, &str, &str, &[&str]); 6] = [
         STRIP,
         "penalty 1\n",
         &["1 5 2147483648"],
+    ),
+    (
+        "--mesh mesh --format msh --summary",
+        ANGLE,
+        "",
+        &["cells 3", "dofs 8", "entries 40", "diagonal 34360089216"],
     ),
     // (half the diffusion with which a sum passes its limit, see below)
     (
@@ -179,7 +208,7 @@ pub(crate) const SAME: [(&[&str], &str, &str, &str); 3] = [
 ];
 
 // Words, mesh and problem of runs that give the same text.
-pub(crate) const ALIKE: [[(&str, &str, &str); 2]; 2] = [
+pub(crate) const ALIKE: [[(&str, &str, &str); 2]; 3] = [
     [
         (
             "--mesh mesh --problem problem --faces once --rhs -",
@@ -199,6 +228,18 @@ pub(crate) const ALIKE: [[(&str, &str, &str); 2]; 2] = [
             DRAWN_FOUR_PROBLEM,
         ),
         ("--generate 2 --seed 7 --faces both --rhs -", "", ""),
+    ],
+    [
+        (
+            "--mesh mesh --problem problem --format msh --rhs -",
+            ANGLE,
+            ANGLE_PROBLEM,
+        ),
+        (
+            "--mesh mesh --problem problem --rhs -",
+            WRITTEN_ANGLE,
+            ANGLE_PROBLEM,
+        ),
     ],
 ];
 

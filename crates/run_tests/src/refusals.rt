@@ -1,10 +1,13 @@
 // Tables of runs that are refused.
 
 use crate::cases::{BOTH, MESH};
-use crate::texts::{FLAT, GRID, LENIENT_STRIP, LONG, SQUARE, STRIP, TICK, TINY};
+use crate::texts::{FLAT, GRID, LENIENT_STRIP, LONG, MSH_TRIANGLE, SQUARE, STRIP, TICK, TINY};
+
+// The words of a run over a mesh text in MSH alone.
+const MSH: &str = "--mesh mesh --format msh";
 
 // Words, mesh, problem, status, and the line on the diagnostics. Nothing is written.
-pub(crate) const REFUSED: [(&str, &str, &str, u8, &str); 41] = [
+pub(crate) const REFUSED: [(&str, &str, &str, u8, &str); 54] = [
     (MESH, "", "", 3, "assemble: 3 MeshText line 1 TooFew\n"),
     (
         MESH,
@@ -269,6 +272,91 @@ pub(crate) const REFUSED: [(&str, &str, &str, u8, &str); 41] = [
         17,
         "assemble: 17 Absent problem\n",
     ),
+    (MSH, "", "", 3, "assemble: 3 MeshText line 1 TooFew\n"),
+    (
+        MSH,
+        "4 1 0 0 0\n",
+        "",
+        3,
+        "assemble: 3 MeshText line 1 Section\n",
+    ),
+    (
+        MSH,
+        "$MeshFormat\n4.1 0 8\n",
+        "",
+        3,
+        "assemble: 3 MeshText line 2 Format\n",
+    ),
+    (
+        MSH,
+        "$MeshFormat\n2.2 0 8\n$EndMeshFormat\n$Elements\n",
+        "",
+        3,
+        "assemble: 3 MeshText line 4 Section\n",
+    ),
+    (
+        MSH,
+        "$MeshFormat\n2.2 0 8\n$EndMeshFormat\n$Comments\n$Nodes\n",
+        "",
+        3,
+        "assemble: 3 MeshText line 6 TooFew\n",
+    ),
+    (
+        MSH,
+        "$MeshFormat\n2.2 0 8\n$EndMeshFormat\n$Nodes\n1\n1 0 0\n",
+        "",
+        3,
+        "assemble: 3 MeshText line 6 NodeLine\n",
+    ),
+    (
+        MSH,
+        "$MeshFormat\n2.2 0 8\n$EndMeshFormat\n$Nodes\n1\n1 0 1025 0\n",
+        "",
+        3,
+        "assemble: 3 MeshText line 6 Number\n",
+    ),
+    (
+        MSH,
+        "$MeshFormat\n2.2 0 8\n$EndMeshFormat\n$Nodes\n2\n1 0 0 0\n01 0 0 0\n",
+        "",
+        3,
+        "assemble: 3 MeshText line 7 DuplicateId\n",
+    ),
+    (
+        MSH,
+        "$MeshFormat\n2.2 0 8\n$EndMeshFormat\n$Nodes\n1048577\n",
+        "",
+        9,
+        "assemble: 9 Limit MeshCount line 5\n",
+    ),
+    (
+        MSH,
+        "$MeshFormat\n2.2 0 8\n$EndMeshFormat\n$Nodes\n2\n1 0 0 0\n2 1 0 0\n$EndNodes\n$Elements\n1\n1 1 -1 1 2\n",
+        "",
+        3,
+        "assemble: 3 MeshText line 11 ElementLine\n",
+    ),
+    (
+        MSH,
+        MSH_TRIANGLE,
+        "",
+        3,
+        "assemble: 3 MeshText line 18 UnsupportedType\n",
+    ),
+    (
+        MSH,
+        "$MeshFormat\n2.2 0 8\n$EndMeshFormat\n$Nodes\n2\n1 0 0 0\n2 1 0 0\n$EndNodes\n$Elements\n1\n1 15 0 3\n",
+        "",
+        3,
+        "assemble: 3 MeshText line 11 UnknownNode\n",
+    ),
+    (
+        MSH,
+        "$MeshFormat\n2.2 0 8\n$EndMeshFormat\n$Nodes\n2\n1 0 0 0\n2 1 0 0\n$EndNodes\n$Elements\n0\n$EndNodes\n",
+        "",
+        3,
+        "assemble: 3 MeshText line 11 Section\n",
+    ),
 ];
 
 // Problems over the unit square with a fault, and the line on the diagnostics; the status is 4.
@@ -349,7 +437,7 @@ pub(crate) const BAD_PROBLEMS: [(&str, &str); 22] = [
 ];
 
 // Words that ask for nothing.
-pub(crate) const NO_WORDS: [&str; 39] = [
+pub(crate) const NO_WORDS: [&str; 44] = [
     "",
     "--mesh a --workers 0",
     "--mesh a --queue 257",
@@ -389,4 +477,9 @@ pub(crate) const NO_WORDS: [&str; 39] = [
     "--mesh a --chunk 000000000000000000001",
     "--mesh a --mode Serial",
     "--mesh a --rhs b --matrix b",
+    "--generate 1 --format msh",
+    "--mesh a --format avs",
+    "--mesh a --format ucd --format ucd",
+    "--mesh a --mode mesh --rhs b",
+    "--mesh a --mode mesh --summary",
 ];

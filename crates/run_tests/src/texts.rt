@@ -244,3 +244,41 @@ pub(crate) const LINED_SYSTEM: &str =
 3 3 2863340768\n4 4 5726681536\n4 5 -1431626528\n4 6 -715857120\n5 4 -1431626528\n5 5 2863340768\n\
 5 6 -715857120\n6 4 -715857120\n6 5 -715857120\n6 6 2863340768\n%%MatrixMarket matrix array integer general\n\
 % unit 2^-32\n6 1\n5726681536\n5726681536\n5726681536\n5726681536\n715857120\n1431626528\n";
+
+// The unit square in MSH, with a section of names, a point and a line.
+pub(crate) const MSH_SQUARE: &str =
+    "$MeshFormat\n2.2 0 8\n$EndMeshFormat\n$PhysicalNames\n1\n2 1 \"body\"\n$EndPhysicalNames\n$Nodes\n4\n\
+1 0 0 0\n2 1 0 0\n3 1 1 0\n4 0 1 0\n$EndNodes\n$Elements\n3\n1 15 2 0 1 1\n2 1 2 7 1 1 2\n3 3 2 1 1 1 2 3 4\n\
+$EndElements\n";
+
+// The same with a triangle in place of the line.
+pub(crate) const MSH_TRIANGLE: &str =
+    "$MeshFormat\n2.2 0 8\n$EndMeshFormat\n$PhysicalNames\n1\n2 1 \"body\"\n$EndPhysicalNames\n$Nodes\n4\n\
+1 0 0 0\n2 1 0 0\n3 1 1 0\n4 0 1 0\n$EndNodes\n$Elements\n3\n1 15 2 0 1 1\n2 2 2 7 1 1 2 3\n3 3 2 1 1 1 2 3 4\n\
+$EndElements\n";
+
+// The unit square as the mode `mesh` writes it.
+pub(crate) const WRITTEN_SQUARE: &str =
+    "4 1 0 0 0\n1 0.0000000000000000 0.0000000000000000 0\n2 1.0000000000000000 0.0000000000000000 0\n\
+3 1.0000000000000000 1.0000000000000000 0\n4 0.0000000000000000 1.0000000000000000 0\n1 1 quad 1 2 3 4\n";
+
+// Three unit squares round a corner, as gmsh writes them: examples/angle.msh.
+pub(crate) const ANGLE: &str =
+    "$MeshFormat\n2.2 0 8\n$EndMeshFormat\n$PhysicalNames\n4\n1 7 \"outside\"\n1 9 \"inside\"\n2 1 \"brick\"\n\
+2 2 \"insulation\"\n$EndPhysicalNames\n$Nodes\n8\n1 0 0 0\n2 2 0 0\n3 2 1 0\n4 1 1 0\n5 1 2 0\n6 0 2 0\n\
+7 0 1 0\n8 1 0 0\n$EndNodes\n$Elements\n11\n1 1 2 7 1 1 8\n2 1 2 7 2 8 2\n3 1 2 7 3 2 3\n4 1 2 9 4 3 4\n\
+5 1 2 9 5 4 5\n6 1 2 7 6 5 6\n7 1 2 7 7 6 7\n8 1 2 7 8 7 1\n9 3 2 1 1 1 8 4 7\n10 3 2 2 2 8 2 3 4\n\
+11 3 2 2 3 4 5 6 7\n$EndElements\n";
+
+// The same three squares as the mode `mesh` writes them.
+pub(crate) const WRITTEN_ANGLE: &str =
+    "8 11 0 0 0\n1 0.0000000000000000 0.0000000000000000 0\n2 2.0000000000000000 0.0000000000000000 0\n\
+3 2.0000000000000000 1.0000000000000000 0\n4 1.0000000000000000 1.0000000000000000 0\n\
+5 1.0000000000000000 2.0000000000000000 0\n6 0.0000000000000000 2.0000000000000000 0\n\
+7 0.0000000000000000 1.0000000000000000 0\n8 1.0000000000000000 0.0000000000000000 0\n1 1 quad 1 8 4 7\n\
+2 2 quad 8 2 3 4\n3 2 quad 4 5 6 7\n4 7 line 1 8\n5 7 line 8 2\n6 7 line 2 3\n7 9 line 3 4\n8 9 line 4 5\n\
+9 7 line 5 6\n10 7 line 6 7\n11 7 line 7 1\n";
+
+// A problem for them.
+pub(crate) const ANGLE_PROBLEM: &str =
+    "diffusion 1 80\ndiffusion 2 4\nrobin 7 25 -250\nrobin 9 8 160\nrefine 0\n";

@@ -1,20 +1,13 @@
 -- Texts that were read, and what they are of.
 use Rattle.std.proofs.Common.{lit≤, ◌≡◌, ◌∙◌, sym, ap, refl, subst, ℕ, ◌+◌, ◌<◌, ◌≤◌, List, [], length, take, arith, false, inl, inr}
-use Rattle.std.specs.Prelude.{Some, None, Ok, Err, IfOk, IfErr, ◌^◌}
+use Rattle.std.specs.Prelude.{Some, None, Ok, Err, IfOk, IfErr}
 use Rattle.std.specs.declared.option.Option.{Option}
 use Rattle.std.specs.declared.result.Result.{Result}
 use Rattle.std.specs.Option.{option_map}
 use Rattle.std.proofs.lemmas.Grind.{common_steps}
 use Rattle.std.proofs.lemmas.Option.{same_Some}
-use Rattle.fem_fixed.specs.Mesh.{Mesh}
 use Rattle.fem_text.specs.Outside.{Held, Reads, IsAbsent}
 use Rattle.fem_text.specs.declared.fault.TextFault.{TextFault}
-use Rattle.ucd_read.specs.declared.fault.UcdKind.{UcdKind}
-use Rattle.ucd_read.specs.declared.fault.UcdKind.TheVariants as ucd
-use Rattle.ucd_read.specs.Faults as ucd_faults
-use Rattle.ucd_read.specs.Faults.{UcdFault}
-use Rattle.ucd_read.specs.Ucd.{Ucd, UcdFaultAt, mesh_of}
-use Rattle.ucd_read.specs.Bounds.{IsBounded}
 use Rattle.problem_read.specs.declared.fault.ProblemKind.{ProblemKind}
 use Rattle.problem_read.specs.declared.fault.ProblemKind.TheVariants as problem
 use Rattle.problem_read.specs.Entries.{ProblemParts}
@@ -26,11 +19,11 @@ use Rattle.diagnostics.specs.declared.ending.Role.{Role}
 use Rattle.diagnostics.specs.declared.ending.Role.TheVariants as roles
 use Rattle.diagnostics.specs.declared.ending.Ending.{Ending}
 use Rattle.diagnostics.specs.declared.ending.Ending.TheVariants.{Refused, ReadFault, WriteFault, NoMemory}
-use Rattle.run_texts.specs.Endings.{of_mesh_text, of_problem_text}
+use Rattle.run_texts.specs.Endings.{of_problem_text}
 use Rattle.diagnostics.specs.Stages.{Then, stops, goes}
 use Rattle.diagnostics.specs.Stages as stages
 use Rattle.diagnostics.proofs.StageLaws.{ends_next}
-use Rattle.run_texts.specs.Texts.{text_limit, StandsUnder, TextFor, size_limit, MeshIn, ProblemIn, ProblemOf}
+use Rattle.run_texts.specs.Texts.{text_limit, StandsUnder, TextFor, size_limit, ProblemIn, ProblemOf}
 use Rattle.run_texts.specs.Read.{TextUnder, ProblemUnder, EndsIn, EndsProblem, is_read_fault}
 
 cut_long : (m : ℕ) (text bytes : List ℕ) → take (m + 1) text ≡ bytes → m < length bytes → m < length text
@@ -66,27 +59,6 @@ pub absent_read : (role : Role) (holds : Option Held) (name : List ℕ) → IsAb
 absent_read role None name h = absurd h
 absent_read role (Some held) name h = (None, sym h, refl)
 
-mesh_kind_ends : (text : List ℕ) (kind : UcdKind) (line : ℕ) → UcdFaultAt text kind line → stages.EndsIn (MeshIn text) (of_mesh_text kind line)
-mesh_kind_ends text ucd.Header line h = (record { kind = ucd.Header; line = line }, h, refl)
-mesh_kind_ends text ucd.NodeLine line h = (record { kind = ucd.NodeLine; line = line }, h, refl)
-mesh_kind_ends text ucd.CellLine line h = (record { kind = ucd.CellLine; line = line }, h, refl)
-mesh_kind_ends text ucd.Number line h = (record { kind = ucd.Number; line = line }, h, refl)
-mesh_kind_ends text ucd.DuplicateId line h = (record { kind = ucd.DuplicateId; line = line }, h, refl)
-mesh_kind_ends text ucd.UnknownNode line h = (record { kind = ucd.UnknownNode; line = line }, h, refl)
-mesh_kind_ends text ucd.UnsupportedType line h = (record { kind = ucd.UnsupportedType; line = line }, h, refl)
-mesh_kind_ends text ucd.TooFew line h = (record { kind = ucd.TooFew; line = line }, h, refl)
-mesh_kind_ends text ucd.Limit line h = (record { kind = ucd.Limit; line = line }, h, refl)
-mesh_kind_ends text ucd.NoMemory line h = tt
-
-mesh_said : (text : List ℕ) (fault : UcdFault) → ucd_faults.NoMemoryOr fault (UcdFaultAt text fault.kind fault.line) → stages.EndsIn (MeshIn text) (of_mesh_text fault.kind fault.line)
-mesh_said text fault (inl e) = subst (λ (f : UcdFault). stages.EndsIn (MeshIn text) (of_mesh_text f.kind f.line)) (sym e) tt
-mesh_said text fault (inr h) = mesh_kind_ends text fault.kind fault.line h
-
--- a fault of a mesh text ends its reading
-pub mesh_ends : (text : List ℕ) (fault : UcdFault) (e : Ending) → e ≡ of_mesh_text fault.kind fault.line → ucd_faults.NoMemoryOr fault (UcdFaultAt text fault.kind fault.line) →
-    stages.EndsIn (MeshIn text) e
-mesh_ends text fault e is h = subst (stages.EndsIn (MeshIn text)) (sym is) (mesh_said text fault h)
-
 problem_kind_ends : (text : List ℕ) (kind : ProblemKind) (line : ℕ) → ProblemFaultAt text kind line → stages.EndsIn (ProblemIn text) (of_problem_text kind line)
 problem_kind_ends text problem.Word line h = (record { kind = problem.Word; line = line }, h, refl)
 problem_kind_ends text problem.Number line h = (record { kind = problem.Number; line = line }, h, refl)
@@ -103,13 +75,6 @@ problem_said text fault (inr h) = problem_kind_ends text fault.kind fault.line h
 pub problem_ends : (text : List ℕ) (fault : TextFault ProblemKind) (e : Ending) → e ≡ of_problem_text fault.kind fault.line →
     problems.NoMemoryOr fault (ProblemFaultAt text fault.kind fault.line) → stages.EndsIn (ProblemIn text) e
 problem_ends text fault e is h = subst (stages.EndsIn (ProblemIn text)) (sym is) (problem_said text fault h)
-
--- a mesh has as many ids as points
-pub ids_few : (text : List ℕ) (mesh : Mesh) → Ucd text mesh → IsBounded mesh → length mesh.ids ≤ 2 ^ 20
-ids_few text mesh read bounded =
-    let made : length (mesh_of read.nodes read.cells).ids ≡ length (mesh_of read.nodes read.cells).points = grind (arith, common_steps) in
-    let same : length mesh.ids ≡ length mesh.points = ap (λ (m : Mesh). length m.ids) read.mesh_is ∙ made ∙ sym (ap (λ (m : Mesh). length m.points) read.mesh_is) in
-    subst (λ n. n ≤ 2 ^ 20) (sym same) bounded.points
 
 module _ {X : Type 0} where
   -- what a text that is there is of

@@ -8,6 +8,8 @@ use Rattle.fem_text.specs.declared.counts.Counts.{Counts}
 use Rattle.fem_text.specs.Counts.{after_call, after_good}
 use Rattle.fem_text.specs.Outside.{Held}
 use Rattle.problem_read.specs.Entries.{ProblemParts}
+use Rattle.run_words.specs.declared.options.Format.{Format}
+use Rattle.run_words.specs.declared.options.Format.TheVariants as formats
 use Rattle.run_words.specs.Choice.{texts, generated}
 use Rattle.diagnostics.specs.declared.refusal.Refusal.{Refusal}
 use Rattle.diagnostics.specs.declared.ending.Role.TheVariants as roles
@@ -28,47 +30,47 @@ some_problem : (holds : Option Held) (name : Option (List ℕ)) → (known : Opt
 some_problem holds None = (Some [], refl)
 some_problem holds (Some name) = some_text holds name
 
-both_read : (holds : Option Held) (mesh : List ℕ) (name : Option (List ℕ)) (parts : Mesh) (outcome : Result (Mesh × ProblemParts) Refusal) →
-    MeshUnder holds mesh (Ok parts) →
+both_read : (holds : Option Held) (mesh : List ℕ) (format : Format) (name : Option (List ℕ)) (parts : Mesh) (outcome : Result (Mesh × ProblemParts) Refusal) →
+    MeshUnder holds mesh format (Ok parts) →
     ((known : Option (List ℕ)) × ProblemStands holds name known × Then (ProblemOf known) (λ problem outcome. outcome ≡ Ok (parts, problem)) outcome) →
-    SourceRead holds (texts mesh name) outcome
-both_read holds mesh name parts outcome (known, stands, is) (other, other_stands, other_is) =
+    SourceRead holds (texts mesh format name) outcome
+both_read holds mesh format name parts outcome (known, stands, is) (other, other_stands, other_is) =
     (record { mesh = known; problem = other }, (stands, other_stands), goes parts is other_is)
 
-pub both_ok : (holds : Option Held) (mesh : List ℕ) (name : Option (List ℕ)) (parts : Mesh) (problem : ProblemParts) →
-    MeshUnder holds mesh (Ok parts) → ProblemUnder holds name (Ok problem) → SourceRead holds (texts mesh name) (Ok (parts, problem))
-both_ok holds mesh name parts problem m (known, stands, is) = both_read holds mesh name parts (Ok (parts, problem)) m (known, stands, goes problem is refl)
+pub both_ok : (holds : Option Held) (mesh : List ℕ) (format : Format) (name : Option (List ℕ)) (parts : Mesh) (problem : ProblemParts) →
+    MeshUnder holds mesh format (Ok parts) → ProblemUnder holds name (Ok problem) → SourceRead holds (texts mesh format name) (Ok (parts, problem))
+both_ok holds mesh format name parts problem m (known, stands, is) = both_read holds mesh format name parts (Ok (parts, problem)) m (known, stands, goes problem is refl)
 
 -- the mesh ends the reading
-pub mesh_ends_both : (holds : Option Held) (mesh : List ℕ) (name : Option (List ℕ)) (e : Ending) → EndsIn roles.Mesh (MeshUnder holds mesh) e → EndsReading holds (texts mesh name) e
-mesh_ends_both holds mesh name (Refused refusal) (known, stands, is) =
+pub mesh_ends_both : (holds : Option Held) (mesh : List ℕ) (format : Format) (name : Option (List ℕ)) (e : Ending) → EndsIn roles.Mesh (MeshUnder holds mesh format) e → EndsReading holds (texts mesh format name) e
+mesh_ends_both holds mesh format name (Refused refusal) (known, stands, is) =
     let other = some_problem holds name in
     (record { mesh = known; problem = other.0 }, (stands, other.1), stops refusal is refl)
-mesh_ends_both holds mesh name (ReadFault role) h = subst (GoesOnTo holds (texts mesh name)) (sym h) tt
-mesh_ends_both holds mesh name (WriteFault output) h = h
-mesh_ends_both holds mesh name NoMemory h = h
+mesh_ends_both holds mesh format name (ReadFault role) h = subst (GoesOnTo holds (texts mesh format name)) (sym h) tt
+mesh_ends_both holds mesh format name (WriteFault output) h = h
+mesh_ends_both holds mesh format name NoMemory h = h
 
-goes_to_problem : (holds : Option Held) (mesh : List ℕ) (name : Option (List ℕ)) (parts : Mesh) → MeshUnder holds mesh (Ok parts) → (is_some name ≡ true) → GoesOnTo holds (texts mesh name) roles.Problem
-goes_to_problem holds mesh None parts m is = cc
-goes_to_problem holds mesh (Some name) parts m is = (parts, m)
+goes_to_problem : (holds : Option Held) (mesh : List ℕ) (format : Format) (name : Option (List ℕ)) (parts : Mesh) → MeshUnder holds mesh format (Ok parts) → (is_some name ≡ true) → GoesOnTo holds (texts mesh format name) roles.Problem
+goes_to_problem holds mesh format None parts m is = cc
+goes_to_problem holds mesh format (Some name) parts m is = (parts, m)
 
 -- the problem ends the reading, behind the mesh
-pub problem_ends_both : (holds : Option Held) (mesh : List ℕ) (name : Option (List ℕ)) (parts : Mesh) (e : Ending) → MeshUnder holds mesh (Ok parts) → EndsProblem holds name e → EndsReading holds (texts mesh name) e
-problem_ends_both holds mesh name parts (Refused refusal) m (known, stands, is) = both_read holds mesh name parts (Err refusal) m (known, stands, stops refusal is refl)
-problem_ends_both holds mesh name parts (ReadFault role) m (is, named) = subst (GoesOnTo holds (texts mesh name)) (sym is) (goes_to_problem holds mesh name parts m named)
-problem_ends_both holds mesh name parts (WriteFault output) m h = h
-problem_ends_both holds mesh name parts NoMemory m h = h
+pub problem_ends_both : (holds : Option Held) (mesh : List ℕ) (format : Format) (name : Option (List ℕ)) (parts : Mesh) (e : Ending) → MeshUnder holds mesh format (Ok parts) → EndsProblem holds name e → EndsReading holds (texts mesh format name) e
+problem_ends_both holds mesh format name parts (Refused refusal) m (known, stands, is) = both_read holds mesh format name parts (Err refusal) m (known, stands, stops refusal is refl)
+problem_ends_both holds mesh format name parts (ReadFault role) m (is, named) = subst (GoesOnTo holds (texts mesh format name)) (sym is) (goes_to_problem holds mesh format name parts m named)
+problem_ends_both holds mesh format name parts (WriteFault output) m h = h
+problem_ends_both holds mesh format name parts NoMemory m h = h
 
 one_of_them : (name : Option (List ℕ)) → 1 ≤ suc (name_count name)
 one_of_them name = omega arith
 
 -- the read of the mesh alone
-pub mesh_reads : (X : Type 0) (step : Result Mesh Refusal → Type 0) (mesh : List ℕ) (name : Option (List ℕ)) (e : Ending) (before now : Counts) → EndsIn roles.Mesh step e →
-    now ≡ after_call (is_read_fault {X = X} (Err e)) before → ReadsMade {X = X} (texts mesh name) (Err e) before now
-mesh_reads X step mesh name (Refused refusal) before now h is = (1, one_of_them name, is)
-mesh_reads X step mesh name (ReadFault role) before now h is = subst (λ r. now ≡ after_call true (after_good (reads_before r) before)) (sym h) is
-mesh_reads X step mesh name (WriteFault output) before now h is = absurd h
-mesh_reads X step mesh name NoMemory before now h is = (1, one_of_them name, is)
+pub mesh_reads : (X : Type 0) (step : Result Mesh Refusal → Type 0) (mesh : List ℕ) (format : Format) (name : Option (List ℕ)) (e : Ending) (before now : Counts) → EndsIn roles.Mesh step e →
+    now ≡ after_call (is_read_fault {X = X} (Err e)) before → ReadsMade {X = X} (texts mesh format name) (Err e) before now
+mesh_reads X step mesh format name (Refused refusal) before now h is = (1, one_of_them name, is)
+mesh_reads X step mesh format name (ReadFault role) before now h is = subst (λ r. now ≡ after_call true (after_good (reads_before r) before)) (sym h) is
+mesh_reads X step mesh format name (WriteFault output) before now h is = absurd h
+mesh_reads X step mesh format name NoMemory before now h is = (1, one_of_them name, is)
 
 -- the read of the problem behind that of the mesh, where both went well
 pub both_reads : (name : Option (List ℕ)) (before middle now : Counts) → middle ≡ after_call false before → now ≡ after_read name false middle → now ≡ after_good (suc (name_count name)) before
@@ -85,13 +87,13 @@ all_of_them : (n : ℕ) → n ≤ n
 all_of_them n = omega arith
 
 -- and where the problem ends the reading
-pub problem_reads : (X : Type 0) (holds : Option Held) (mesh : List ℕ) (name : Option (List ℕ)) (e : Ending) (before middle now : Counts) → EndsProblem holds name e →
-    middle ≡ after_call false before → now ≡ after_read name (is_read_fault {X = X} (Err e)) middle → ReadsMade {X = X} (texts mesh name) (Err e) before now
-problem_reads X holds mesh name (Refused refusal) before middle now h first is = (suc (name_count name), all_of_them (suc (name_count name)), both_reads name before middle now first is)
-problem_reads X holds mesh name (ReadFault role) before middle now (problem, named) first is =
+pub problem_reads : (X : Type 0) (holds : Option Held) (mesh : List ℕ) (format : Format) (name : Option (List ℕ)) (e : Ending) (before middle now : Counts) → EndsProblem holds name e →
+    middle ≡ after_call false before → now ≡ after_read name (is_read_fault {X = X} (Err e)) middle → ReadsMade {X = X} (texts mesh format name) (Err e) before now
+problem_reads X holds mesh format name (Refused refusal) before middle now h first is = (suc (name_count name), all_of_them (suc (name_count name)), both_reads name before middle now first is)
+problem_reads X holds mesh format name (ReadFault role) before middle now (problem, named) first is =
     subst (λ r. now ≡ after_call true (after_good (reads_before r) before)) (sym problem) (failed_behind name before middle now named first is)
-problem_reads X holds mesh name (WriteFault output) before middle now h first is = absurd h
-problem_reads X holds mesh name NoMemory before middle now h first is = (suc (name_count name), all_of_them (suc (name_count name)), both_reads name before middle now first is)
+problem_reads X holds mesh format name (WriteFault output) before middle now h first is = absurd h
+problem_reads X holds mesh format name NoMemory before middle now h first is = (suc (name_count name), all_of_them (suc (name_count name)), both_reads name before middle now first is)
 
 -- no read is made for a drawn grid
 pub drawn_reads : {X : Type 0} (n seed : ℕ) (result : Result X Ending) (counts : Counts) → is_read_fault result ≡ false → ReadsMade (generated n seed) result counts counts
@@ -105,18 +107,18 @@ abbrev drawn_texts : ℕ → ℕ → Texts
 drawn_texts n seed = record { mesh = Some (grid.mesh_text n seed); problem = Some (grid.problem_text n) }
 
 pub drawn_ok : (n seed : ℕ) (mesh text : List ℕ) (parts : Mesh) (problem : ProblemParts) → mesh ≡ grid.mesh_text n seed → text ≡ grid.problem_text n →
-    MeshOf (Some mesh) (Ok parts) → ProblemOf (Some text) (Ok problem) → SourceRead None (generated n seed) (Ok (parts, problem))
+    MeshOf formats.Ucd (Some mesh) (Ok parts) → ProblemOf (Some text) (Ok problem) → SourceRead None (generated n seed) (Ok (parts, problem))
 drawn_ok n seed mesh text parts problem is other_is m p =
     (record { mesh = Some mesh; problem = Some text }, (ap Some is, ap Some other_is), goes parts m (goes problem p refl))
 
-pub drawn_mesh_ends : (n seed : ℕ) (mesh : List ℕ) (e : Ending) → mesh ≡ grid.mesh_text n seed → stages.EndsIn (MeshOf (Some mesh)) e → EndsReading None (generated n seed) e
+pub drawn_mesh_ends : (n seed : ℕ) (mesh : List ℕ) (e : Ending) → mesh ≡ grid.mesh_text n seed → stages.EndsIn (MeshOf formats.Ucd (Some mesh)) e → EndsReading None (generated n seed) e
 drawn_mesh_ends n seed mesh (Refused refusal) is h = (record { mesh = Some mesh; problem = Some (grid.problem_text n) }, (ap Some is, refl), stops refusal h refl)
 drawn_mesh_ends n seed mesh (ReadFault role) is h = h
 drawn_mesh_ends n seed mesh (WriteFault output) is h = h
 drawn_mesh_ends n seed mesh NoMemory is h = h
 
 pub drawn_problem_ends : (n seed : ℕ) (mesh text : List ℕ) (parts : Mesh) (e : Ending) → mesh ≡ grid.mesh_text n seed → text ≡ grid.problem_text n →
-    MeshOf (Some mesh) (Ok parts) → stages.EndsIn (ProblemOf (Some text)) e → EndsReading None (generated n seed) e
+    MeshOf formats.Ucd (Some mesh) (Ok parts) → stages.EndsIn (ProblemOf (Some text)) e → EndsReading None (generated n seed) e
 drawn_problem_ends n seed mesh text parts (Refused refusal) is other_is m h =
     (record { mesh = Some mesh; problem = Some text }, (ap Some is, ap Some other_is), goes parts m (stops refusal h refl))
 drawn_problem_ends n seed mesh text parts (ReadFault role) is other_is m h = h

@@ -7,7 +7,8 @@ use Rattle.fem_text.specs.declared.counts.Counts.{Counts}
 use Rattle.fem_text.specs.Counts.{after_call, after_good}
 use Rattle.fem_text.specs.Outside.{Held}
 use Rattle.problem_read.specs.Entries.{ProblemParts}
-use Rattle.run_words.specs.Choice.{Source, texts, generated}
+use Rattle.run_words.specs.declared.options.Format.{Format}
+use Rattle.run_words.specs.Choice.{Source, texts, generated, source_format}
 use Rattle.diagnostics.specs.declared.refusal.Refusal.{Refusal}
 use Rattle.diagnostics.specs.declared.ending.Role.{Role}
 use Rattle.diagnostics.specs.declared.ending.Role.TheVariants as roles
@@ -19,9 +20,9 @@ use Rattle.run_texts.specs.Texts.{Texts, StandsUnder, ProblemStands, TextFor, Me
 abbrev pub TextUnder : Role → Option Held → List ℕ → Result (List ℕ) Refusal → Type 0
 TextUnder role holds name outcome = (known : Option (List ℕ)) × StandsUnder holds name known × TextFor role known outcome
 
--- the mesh of the text under a name
-abbrev pub MeshUnder : Option Held → List ℕ → Result Mesh Refusal → Type 0
-MeshUnder holds name outcome = (known : Option (List ℕ)) × StandsUnder holds name known × MeshOf known outcome
+-- the mesh of the text under a name, in a format
+abbrev pub MeshUnder : Option Held → List ℕ → Format → Result Mesh Refusal → Type 0
+MeshUnder holds name format outcome = (known : Option (List ℕ)) × StandsUnder holds name known × MeshOf format known outcome
 
 -- the problem of the text under a name, if there is a name
 abbrev pub ProblemUnder : Option Held → Option (List ℕ) → Result ProblemParts Refusal → Type 0
@@ -29,7 +30,7 @@ ProblemUnder holds name outcome = (known : Option (List ℕ)) × ProblemStands h
 
 -- the mesh and the problem of a source
 abbrev pub SourceRead : Option Held → Source → Result (Mesh × ProblemParts) Refusal → Type 0
-SourceRead holds source outcome = (known : Texts) × AreTextsOf holds source known × ReadTexts known outcome
+SourceRead holds source outcome = (known : Texts) × AreTextsOf holds source known × ReadTexts (source_format source) known outcome
 
 -- a step that reads a text ends so
 abbrev pub EndsIn : Role → {X : Type 0} → (Result X Refusal → Type 0) → Ending → Type 0
@@ -47,9 +48,9 @@ EndsProblem holds name NoMemory = Unit {0}
 
 -- nothing is refused before this text is read
 abbrev pub GoesOnTo : Option Held → Source → Role → Type 0
-GoesOnTo holds (texts mesh problem) roles.Mesh = Unit {0}
-GoesOnTo holds (texts mesh (Some problem)) roles.Problem = (parts : Mesh) × MeshUnder holds mesh (Ok parts)
-GoesOnTo holds (texts mesh None) roles.Problem = ⊥
+GoesOnTo holds (texts mesh format problem) roles.Mesh = Unit {0}
+GoesOnTo holds (texts mesh format (Some problem)) roles.Problem = (parts : Mesh) × MeshUnder holds mesh format (Ok parts)
+GoesOnTo holds (texts mesh format None) roles.Problem = ⊥
 GoesOnTo holds (generated n seed) role = ⊥
 
 -- the reading of a source ends so
@@ -72,7 +73,7 @@ name_count None = 0
 name_count (Some name) = 1
 
 abbrev pub names_in : Source → ℕ
-names_in (texts mesh problem) = suc (name_count problem)
+names_in (texts mesh format problem) = suc (name_count problem)
 names_in (generated n seed) = 0
 
 -- how many reads come before that of this text

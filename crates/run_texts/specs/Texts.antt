@@ -6,11 +6,15 @@ use Rattle.fem_fixed.specs.Mesh.{Mesh}
 use Rattle.fem_text.specs.Outside.{Held}
 use Rattle.ucd_read.specs.Faults.{UcdFault}
 use Rattle.ucd_read.specs.Ucd.{Ucd, UcdFaultAt}
+use Rattle.msh_read.specs.Faults.{MshFault}
+use Rattle.msh_read.specs.Msh.{Msh, MshFaultAt}
 use Rattle.problem_read.specs.declared.fault.ProblemKind.{ProblemKind}
 use Rattle.problem_read.specs.Entries.{ProblemParts}
 use Rattle.problem_read.specs.Problem.{ProblemText, ProblemFaultAt}
 use Rattle.fem_text.specs.declared.fault.TextFault.{TextFault}
 use Rattle.grid_texts.specs.Grid as grid
+use Rattle.run_words.specs.declared.options.Format.{Format}
+use Rattle.run_words.specs.declared.options.Format.TheVariants as formats
 use Rattle.run_words.specs.Choice.{Source, texts, generated}
 use Rattle.diagnostics.specs.declared.ending.Role.{Role}
 use Rattle.diagnostics.specs.declared.ending.Role.TheVariants as roles
@@ -18,7 +22,7 @@ use Rattle.diagnostics.specs.declared.kinds.LimitKind.{LimitKind}
 use Rattle.diagnostics.specs.declared.kinds.LimitKind.TheVariants.{MeshSize, ProblemSize}
 use Rattle.diagnostics.specs.declared.refusal.Refusal.{Refusal}
 use Rattle.diagnostics.specs.declared.refusal.Refusal.TheVariants.{Absent, Limit}
-use Rattle.run_texts.specs.Endings.{of_mesh_text, of_problem_text}
+use Rattle.run_texts.specs.Endings.{of_ucd, of_msh, of_problem_text}
 use Rattle.diagnostics.specs.Stages.{Then, Says}
 
 -- the greatest length of a text
@@ -42,7 +46,7 @@ ProblemStands holds None known = known ≡ Some []
 
 -- these are the texts of a source
 abbrev pub AreTextsOf : Option Held → Source → Texts → Type 0
-AreTextsOf holds (texts mesh problem) known = StandsUnder holds mesh known.mesh × ProblemStands holds problem known.problem
+AreTextsOf holds (texts mesh format problem) known = StandsUnder holds mesh known.mesh × ProblemStands holds problem known.problem
 AreTextsOf holds (generated n seed) known = (known.mesh ≡ Some (grid.mesh_text n seed)) × (known.problem ≡ Some (grid.problem_text n))
 
 abbrev pub size_limit : Role → LimitKind
@@ -55,10 +59,20 @@ TextFor role known (Ok text) = (known ≡ Some text) × (length text ≤ text_li
 TextFor role None (Err refusal) = refusal ≡ Absent role
 TextFor role (Some text) (Err refusal) = (text_limit < length text) × (refusal ≡ Limit (size_limit role))
 
--- the mesh of a text, or its first fault
-abbrev pub MeshIn : List ℕ → Result Mesh Refusal → Type 0
-MeshIn text (Ok mesh) = Ucd text mesh
-MeshIn text (Err refusal) = Says (λ (fault : UcdFault). of_mesh_text fault.kind fault.line) (λ (fault : UcdFault). UcdFaultAt text fault.kind fault.line) refusal
+-- the mesh of a text in UCD, or its first fault
+abbrev pub UcdMesh : List ℕ → Result Mesh Refusal → Type 0
+UcdMesh text (Ok mesh) = Ucd text mesh
+UcdMesh text (Err refusal) = Says (λ (fault : UcdFault). of_ucd fault.kind fault.line) (λ (fault : UcdFault). UcdFaultAt text fault.kind fault.line) refusal
+
+-- the same of a text in MSH
+abbrev pub MshMesh : List ℕ → Result Mesh Refusal → Type 0
+MshMesh text (Ok mesh) = Msh text mesh
+MshMesh text (Err refusal) = Says (λ (fault : MshFault). of_msh fault.kind fault.line) (λ (fault : MshFault). MshFaultAt text fault.kind fault.line) refusal
+
+-- the mesh of a text in a format, or its first fault
+abbrev pub MeshIn : Format → List ℕ → Result Mesh Refusal → Type 0
+MeshIn formats.Ucd text outcome = UcdMesh text outcome
+MeshIn formats.Msh text outcome = MshMesh text outcome
 
 -- the problem of a text, or its first fault
 abbrev pub ProblemIn : List ℕ → Result ProblemParts Refusal → Type 0
@@ -66,12 +80,12 @@ ProblemIn text (Ok problem) = ProblemText text problem
 ProblemIn text (Err refusal) =
     Says (λ (fault : TextFault ProblemKind). of_problem_text fault.kind fault.line) (λ (fault : TextFault ProblemKind). ProblemFaultAt text fault.kind fault.line) refusal
 
-abbrev pub MeshOf : Option (List ℕ) → Result Mesh Refusal → Type 0
-MeshOf known = Then (TextFor roles.Mesh known) MeshIn
+abbrev pub MeshOf : Format → Option (List ℕ) → Result Mesh Refusal → Type 0
+MeshOf format known = Then (TextFor roles.Mesh known) (MeshIn format)
 
 abbrev pub ProblemOf : Option (List ℕ) → Result ProblemParts Refusal → Type 0
 ProblemOf known = Then (TextFor roles.Problem known) ProblemIn
 
 -- the mesh and then the problem
-abbrev pub ReadTexts : Texts → Result (Mesh × ProblemParts) Refusal → Type 0
-ReadTexts known = Then (MeshOf known.mesh) (λ mesh. Then (ProblemOf known.problem) (λ problem outcome. outcome ≡ Ok (mesh, problem)))
+abbrev pub ReadTexts : Format → Texts → Result (Mesh × ProblemParts) Refusal → Type 0
+ReadTexts format known = Then (MeshOf format known.mesh) (λ mesh. Then (ProblemOf known.problem) (λ problem outcome. outcome ≡ Ok (mesh, problem)))

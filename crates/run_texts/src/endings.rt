@@ -1,14 +1,15 @@
 //! The faults of the two texts as endings of a run.
 ghost use Rattle.std.specs.Prelude.{◌≡◌};
-ghost use Rattle.run_texts.specs.Endings.{of_mesh_text, of_problem_text};
+ghost use Rattle.run_texts.specs.Endings.{of_ucd, of_msh, of_problem_text};
 
 use diagnostics::{Ending, LimitKind, MeshTextKind, ProblemTextKind, Refusal};
+use msh_read::{MshFault, MshKind};
 use problem_read::{ProblemFault, ProblemKind};
 use ucd_read::{UcdFault, UcdKind};
 
-/// How a run ends whose mesh text has this fault.
-pub(crate) fn mesh_text_ending(fault: UcdFault) -> Ending
-    ensures { result ≡ of_mesh_text fault.kind fault.line }
+/// How a run ends whose mesh text in UCD has this fault.
+pub(crate) fn ucd_ending(fault: UcdFault) -> Ending
+    ensures { result ≡ of_ucd fault.kind fault.line }
 {
     let kind = match fault.kind {
         UcdKind::Header => MeshTextKind::Header,
@@ -23,6 +24,28 @@ pub(crate) fn mesh_text_ending(fault: UcdFault) -> Ending
             return Ending::Refused(Refusal::Limit(LimitKind::MeshCount(fault.line)));
         }
         UcdKind::NoMemory => return Ending::NoMemory,
+    };
+    Ending::Refused(Refusal::MeshText(kind, fault.line))
+}
+
+/// How a run ends whose mesh text in MSH has this fault.
+pub(crate) fn msh_ending(fault: MshFault) -> Ending
+    ensures { result ≡ of_msh fault.kind fault.line }
+{
+    let kind = match fault.kind {
+        MshKind::Format => MeshTextKind::Format,
+        MshKind::NodeLine => MeshTextKind::NodeLine,
+        MshKind::ElementLine => MeshTextKind::ElementLine,
+        MshKind::Number => MeshTextKind::Number,
+        MshKind::DuplicateId => MeshTextKind::DuplicateId,
+        MshKind::UnknownNode => MeshTextKind::UnknownNode,
+        MshKind::UnsupportedType => MeshTextKind::UnsupportedType,
+        MshKind::TooFew => MeshTextKind::TooFew,
+        MshKind::Section => MeshTextKind::Section,
+        MshKind::Limit => {
+            return Ending::Refused(Refusal::Limit(LimitKind::MeshCount(fault.line)));
+        }
+        MshKind::NoMemory => return Ending::NoMemory,
     };
     Ending::Refused(Refusal::MeshText(kind, fault.line))
 }

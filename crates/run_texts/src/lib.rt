@@ -2,6 +2,7 @@
 #![tactic(auto)]
 
 mod endings;
+mod formats;
 mod read;
 mod source;
 

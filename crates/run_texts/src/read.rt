@@ -3,16 +3,17 @@ ghost use Rattle.std.specs.Option.{option_copied};
 ghost use Rattle.fem_text.specs.Counts.{after_call};
 ghost use Rattle.ucd_read.specs.Bounds.{IsBounded};
 ghost use Rattle.diagnostics.specs.Stages as stages;
-ghost use Rattle.run_texts.specs.Texts.{text_limit, MeshIn, ProblemIn, MeshOf, ProblemOf};
+ghost use Rattle.run_texts.specs.Texts.{text_limit, ProblemIn, MeshOf, ProblemOf};
 ghost use Rattle.run_texts.specs.Read.{TextUnder, MeshUnder, ProblemUnder, EndsIn, EndsProblem, after_read, is_read_fault};
 
-use crate::endings::{mesh_text_ending, problem_text_ending};
+use crate::endings::problem_text_ending;
+use crate::formats::mesh_in;
 use diagnostics::{Ending, LimitKind, Refusal, Role};
 use fem_fixed::MeshParts;
 use fem_text::{Store, StoreFault};
 use problem_read::{Problem, read_problem};
+use run_words::Format;
 use std::alloc::Global;
-use ucd_read::read_ucd;
 
 // The greatest length of a text.
 const TEXT_LIMIT: u64 = 268_435_456;
@@ -55,21 +56,6 @@ pub(crate) fn read_text<S: Store>(
     }
 }
 
-/// The mesh of a text.
-#[tactic(auto, unfolding(crate::specs::Texts::text_limit), using(crate::proofs::Reading::mesh_ends, crate::proofs::Reading::ids_few))]
-pub(crate) fn mesh_in(alloc: Global, text: &[u8]) -> Result<MeshParts, Ending>
-    requires { length text.now ≤ text_limit }
-    ensures ok { IfOk result (λ parts. MeshIn text.now (Ok parts)) }
-    ensures bounded { IfOk result IsBounded }
-    ensures ids { IfOk result (λ parts. length parts.ids ≤ 2 ^ 20) }
-    ensures refused { IfErr result (stages.EndsIn (MeshIn text.now)) }
-{
-    match read_ucd(alloc, text) {
-        Ok(parts) => Ok(parts),
-        Err(fault) => Err(mesh_text_ending(fault)),
-    }
-}
-
 /// The problem of a text.
 #[tactic(auto, unfolding(crate::specs::Texts::text_limit), using(crate::proofs::Reading::problem_ends))]
 pub(crate) fn problem_in(alloc: Global, text: &[u8]) -> Result<Problem, Ending>
@@ -83,18 +69,18 @@ pub(crate) fn problem_in(alloc: Global, text: &[u8]) -> Result<Problem, Ending>
     }
 }
 
-/// The mesh of a text that is there, where it is not too long.
+/// The mesh of a text that is there, in a format, where it is not too long.
 #[tactic(auto, unfolding(crate::specs::Texts::text_limit))]
-pub(crate) fn mesh_of(alloc: Global, text: &[u8]) -> Result<MeshParts, Ending>
-    ensures ok { IfOk result (λ parts. MeshOf (Some text.now) (Ok parts)) }
+pub(crate) fn mesh_of(alloc: Global, format: Format, text: &[u8]) -> Result<MeshParts, Ending>
+    ensures ok { IfOk result (λ parts. MeshOf format (Some text.now) (Ok parts)) }
     ensures bounded { IfOk result IsBounded }
     ensures ids { IfOk result (λ parts. length parts.ids ≤ 2 ^ 20) }
-    ensures refused { IfErr result (stages.EndsIn (MeshOf (Some text.now))) }
+    ensures refused { IfErr result (stages.EndsIn (MeshOf format (Some text.now))) }
 {
     if text.len() as u64 > TEXT_LIMIT {
         return Err(Ending::Refused(Refusal::Limit(LimitKind::MeshSize)));
     }
-    mesh_in(alloc, text)
+    mesh_in(alloc, format, text)
 }
 
 /// The problem of a text that is there, where it is not too long.
@@ -109,16 +95,17 @@ pub(crate) fn problem_of(alloc: Global, text: &[u8]) -> Result<Problem, Ending>
     problem_in(alloc, text)
 }
 
-/// The mesh of the text under a name.
+/// The mesh of the text under a name, in a format.
 pub(crate) fn read_mesh<S: Store>(
     alloc: Global,
     name: &str,
+    format: Format,
     store: &mut S,
 ) -> Result<MeshParts, Ending>
-    ensures ok { IfOk result (λ parts. MeshUnder (S.holds store.old) name.now (Ok parts)) }
+    ensures ok { IfOk result (λ parts. MeshUnder (S.holds store.old) name.now format (Ok parts)) }
     ensures bounded { IfOk result IsBounded }
     ensures ids { IfOk result (λ parts. length parts.ids ≤ 2 ^ 20) }
-    ensures ends { IfErr result (EndsIn Role.Mesh (MeshUnder (S.holds store.old) name.now)) }
+    ensures ends { IfErr result (EndsIn Role.Mesh (MeshUnder (S.holds store.old) name.now format)) }
     ensures same { S.holds store.new ≡ S.holds store.old }
     ensures calls { S.counts store.new ≡ after_call (is_read_fault result) (S.counts store.old) }
 {
@@ -126,7 +113,7 @@ pub(crate) fn read_mesh<S: Store>(
         Ok(text) => text,
         Err(ending) => return Err(ending),
     };
-    mesh_in(alloc, text.as_slice())
+    mesh_in(alloc, format, text.as_slice())
 }
 
 /// The problem of the text under a name, or of the empty text where there is no name.

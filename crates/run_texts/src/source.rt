@@ -11,7 +11,7 @@ use fem_fixed::MeshParts;
 use fem_text::Store;
 use grid_texts::generate;
 use problem_read::Problem;
-use run_words::Source;
+use run_words::{Format, Source};
 use std::alloc::Global;
 
 /// The mesh and the problem of a source: of the texts under its names, or of the generated ones. A problem
@@ -35,26 +35,31 @@ pub fn read_source<S: Store>(
     ensures calls { ReadsMade (seen_source source.entry) result (S.counts store.old) (S.counts store.new) }
 {
     match source {
-        Source::Texts { mesh, problem } => read_both(alloc, mesh, problem, store),
+        Source::Texts {
+            mesh,
+            format,
+            problem,
+        } => read_both(alloc, mesh, format, problem, store),
         Source::Generated { n, seed } => drawn(alloc, n, seed),
     }
 }
 
-// The mesh and the problem of the texts under these names.
+// The mesh, in a format, and the problem of the texts under these names.
 fn read_both<S: Store>(
     alloc: Global,
     mesh: &str,
+    format: Format,
     problem: Option<&str>,
     store: &mut S,
 ) -> Result<(MeshParts, Problem), Ending>
-    ensures ok { IfOk result (λ read. SourceRead (S.holds store.old) (texts mesh.now (option_copied problem.entry)) (Ok (read.0, read.1))) }
+    ensures ok { IfOk result (λ read. SourceRead (S.holds store.old) (texts mesh.now format (option_copied problem.entry)) (Ok (read.0, read.1))) }
     ensures bounded { IfOk result (λ read. IsBounded read.0) }
     ensures ids { IfOk result (λ read. length read.0.ids ≤ 2 ^ 20) }
-    ensures ends { IfErr result (EndsReading (S.holds store.old) (texts mesh.now (option_copied problem.entry))) }
+    ensures ends { IfErr result (EndsReading (S.holds store.old) (texts mesh.now format (option_copied problem.entry))) }
     ensures same { S.holds store.new ≡ S.holds store.old }
-    ensures calls { ReadsMade (texts mesh.now (option_copied problem.entry)) result (S.counts store.old) (S.counts store.new) }
+    ensures calls { ReadsMade (texts mesh.now format (option_copied problem.entry)) result (S.counts store.old) (S.counts store.new) }
 {
-    let parts = match read_mesh(alloc, mesh, store) {
+    let parts = match read_mesh(alloc, mesh, format, store) {
         Ok(parts) => parts,
         Err(ending) => return Err(ending),
     };
@@ -75,7 +80,7 @@ fn drawn(alloc: Global, n: u32, seed: u64) -> Result<(MeshParts, Problem), Endin
     ensures never { is_read_fault result ≡ false }
 {
     let drawn = generate(alloc, n, seed)?;
-    let parts = match mesh_of(alloc, drawn.mesh.as_slice()) {
+    let parts = match mesh_of(alloc, Format::Ucd, drawn.mesh.as_slice()) {
         Ok(parts) => parts,
         Err(ending) => return Err(ending),
     };

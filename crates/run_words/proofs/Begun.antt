@@ -29,6 +29,7 @@ begins_name names.Matrix = refl
 begins_name names.Rhs = refl
 begins_name names.Generate = refl
 begins_name names.Seed = refl
+begins_name names.Format = refl
 
 pub begins_joined : (name : Name) (value : List ℕ) → begins (spelled name ++ codes "=" ++ value) ≡ Some (whole (joined name value))
 unfolding begins spelled find_name
@@ -45,6 +46,7 @@ begins_joined names.Matrix value = refl
 begins_joined names.Rhs value = refl
 begins_joined names.Generate value = refl
 begins_joined names.Seed value = refl
+begins_joined names.Format value = refl
 
 pub begins_summary : begins (codes "--summary") ≡ Some (whole summary)
 unfolding begins

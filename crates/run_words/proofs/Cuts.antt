@@ -88,11 +88,11 @@ none_at zero place = refl
 none_at (suc count) zero = refl
 none_at (suc count) (suc place) = none_at count place
 
-pub holds_none : (words : List (List ℕ)) → HoldsSoFar words (held_in (replicate 13 nothing) false) words
+pub holds_none : (words : List (List ℕ)) → HoldsSoFar words (held_in (replicate 14 nothing) false) words
 holds_none words = record {
   settings = [];
   words_are = refl;
-  values_are = record { values_are = λ name. ap (λ o. option_to_list (option_copied o)) (none_at 13 (place_of name)); summary_is = refl };
+  values_are = record { values_are = λ name. ap (λ o. option_to_list (option_copied o)) (none_at 14 (place_of name)); summary_is = refl };
 }
 
 single_value : (o : Option (List ℕ)) → option_to_list o ≡ cons_option o []

@@ -2,14 +2,17 @@
 use Rattle.std.proofs.Common.{◌≡◌, ◌∙◌, ap, sym, subst, ℕ, List, [], ◌∷◌, ◌++◌, Bool, true, false, cond, refl, inl, inr, append_assoc, map, length, ◌<◌, arith}
 use Rattle.run_words.proofs.Rules.{and_false}
 use Rattle.run_words.specs.declared.name.Name.TheVariants as names
+use Rattle.run_words.specs.declared.options.Mode.{Mode}
 use Rattle.run_words.specs.declared.options.Mode.TheVariants as modes
+use Rattle.run_words.specs.declared.options.SystemMode.TheVariants as systems
 use Rattle.run_words.specs.Settings.{Setting, apart, joined, summary, words_of, values_of, first_of}
 use Rattle.run_words.specs.Names.{spelled, same_name}
-use Rattle.run_words.specs.Values.{mode_of}
+use Rattle.run_words.specs.Values.{system_mode_of, mode_of}
 use Rattle.run_words.specs.Choice.{Choice, named_or}
 use Rattle.std.specs.Prelude.{Some, None, codes, ◌&&◌, ◌||◌, ◌⊎◌, ◌↔◌, IsTrue, unwrap_or}
 use Rattle.std.specs.declared.option.Option.{Option}
 use Rattle.std.specs.List.{flat_map, cons_option}
+use Rattle.std.specs.Option.{option_map}
 use Rattle.run_words.specs.declared.name.Name.{Name}
 use Rattle.run_words.proofs.Places.{names_are_one}
 use Rattle.std.specs.Str.{bytes_eq}
@@ -123,26 +126,33 @@ mode_stands (joined name own ∷ settings) value is =
       | false ↦ λ same h. mode_behind value (words_of (joined name own)) (flat_map words_of settings) (mode_stands settings value h)
     ]) refl is
 
-only_ordered : (a b c d e : Bool) →
-    unwrap_or (cond a (Some modes.Serial) (cond b (Some modes.Ordered) (cond c (Some modes.Colored) (cond d (Some modes.Pattern) (cond e (Some modes.Colors) None))))) modes.Serial ≡ modes.Ordered → b ≡ true
-only_ordered true b c d e is = cc
-only_ordered false true c d e is = refl
-only_ordered false false true d e is = cc
-only_ordered false false false true e is = cc
-only_ordered false false false false true is = cc
-only_ordered false false false false false is = cc
+-- the mode of a word that is these names or not
+abbrev chosen_by : Bool → Bool → Bool → Bool → Bool → Bool → Option Mode
+chosen_by mesh a b c d e =
+    cond mesh (Some modes.Mesh)
+    (option_map modes.System (cond a (Some systems.Serial) (cond b (Some systems.Ordered) (cond c (Some systems.Colored) (cond d (Some systems.Pattern) (cond e (Some systems.Colors) None))))))
 
-ordered_value : (word : List ℕ) → unwrap_or (mode_of word) modes.Serial ≡ modes.Ordered → word ≡ codes "ordered"
-unfolding mode_of
+only_ordered : (mesh a b c d e : Bool) → unwrap_or (chosen_by mesh a b c d e) (modes.System systems.Serial) ≡ modes.System systems.Ordered → b ≡ true
+only_ordered true a b c d e is = cc
+only_ordered false true b c d e is = cc
+only_ordered false false true c d e is = refl
+only_ordered false false false true d e is = cc
+only_ordered false false false false true e is = cc
+only_ordered false false false false false true is = cc
+only_ordered false false false false false false is = cc
+
+ordered_value : (word : List ℕ) → unwrap_or (mode_of word) (modes.System systems.Serial) ≡ modes.System systems.Ordered → word ≡ codes "ordered"
+unfolding mode_of system_mode_of
 ordered_value word is =
     equal word (codes "ordered")
-    (only_ordered (bytes_eq word (codes "serial")) (bytes_eq word (codes "ordered")) (bytes_eq word (codes "colored")) (bytes_eq word (codes "pattern")) (bytes_eq word (codes "colors")) is)
+    (only_ordered (bytes_eq word (codes "mesh")) (bytes_eq word (codes "serial")) (bytes_eq word (codes "ordered")) (bytes_eq word (codes "colored")) (bytes_eq word (codes "pattern"))
+    (bytes_eq word (codes "colors")) is)
 
-ordered_given : (value : Option (List ℕ)) → named_or modes.Serial mode_of value ≡ modes.Ordered → value ≡ Some (codes "ordered")
+ordered_given : (value : Option (List ℕ)) → named_or (modes.System systems.Serial) mode_of value ≡ modes.System systems.Ordered → value ≡ Some (codes "ordered")
 ordered_given None is = cc
 ordered_given (Some word) is = ap Some (ordered_value word is)
 
-pub ordered_named : (words : List (List ℕ)) (choice : Choice) → AskFor words choice → choice.mode ≡ modes.Ordered → NameOrdered words
+pub ordered_named : (words : List (List ℕ)) (choice : Choice) → AskFor words choice → choice.mode ≡ modes.System systems.Ordered → NameOrdered words
 ordered_named words choice asked is =
     subst NameOrdered (sym asked.words_are)
     (mode_stands asked.settings (codes "ordered") (ordered_given (first_of (values_of asked.settings names.Mode)) (sym (ap (λ (c : Choice). c.mode) asked.choice_is) ∙ is)))

@@ -5,6 +5,9 @@ use Rattle.std.specs.Str.{bytes_eq}
 use Rattle.std.proofs.lemmas.Slice.Eq.{bytes_eq-Decides}
 use Rattle.run_words.specs.declared.options.Mode.{Mode}
 use Rattle.run_words.specs.declared.options.Mode.TheVariants as modes
+use Rattle.run_words.specs.declared.options.SystemMode.TheVariants as systems
+use Rattle.run_words.specs.declared.options.Format.{Format}
+use Rattle.run_words.specs.declared.options.Format.TheVariants as formats
 use Rattle.run_words.specs.declared.options.Faces.{Faces}
 use Rattle.run_words.specs.declared.options.Faces.TheVariants as faces
 use Rattle.std.specs.declared.option.Option.{Option}
@@ -14,9 +17,9 @@ use Rattle.fem_fixed.specs.Numbers.{digits_value}
 use Rattle.run_words.specs.declared.name.Name.TheVariants as names
 use Rattle.run_words.specs.declared.options.Plan.{Plan}
 use Rattle.run_words.specs.Settings.{Given}
-use Rattle.run_words.specs.Values.{is_name, is_number_within, mode_of, faces_of, is_in_set}
-use Rattle.run_words.specs.Choice.{Source, texts, generated, Destination, standard, named, Output, summary, both, destination_of, Choice, number_or, named_or, plan_of, source_of, output_of, mode_in, chosen}
-use Rattle.run_words.specs.Words.{passes, AreInSets, is_standard, are_same, has_sums, SourceRules, OutputRules, KeepsRules}
+use Rattle.run_words.specs.Values.{is_name, is_number_within, mode_of, format_of, faces_of, is_in_set}
+use Rattle.run_words.specs.Choice.{Source, texts, generated, Destination, standard, named, Output, summary, both, destination_of, Choice, number_or, named_or, plan_of, source_of, output_of, mode_in, format_in, chosen}
+use Rattle.run_words.specs.Words.{passes, AreInSets, is_standard, are_same, has_sums, is_msh, SourceRules, OutputRules, KeepsRules}
 use Rattle.run_words.specs.Reading.{number_within, name_of, read_or, read_plan, two_texts, read_source, read_destination, is_same_name, two_outputs, read_output, reading, ◌>>=◌}
 use Rattle.run_words.proofs.Cuts.{then_some}
 
@@ -122,47 +125,48 @@ pub record SourceInSets (mesh problem generate seed : Option (List ℕ)) : Type 
   pub seed_in : passes (is_number_within 0 18446744073709551615) seed ≡ true
 
 -- what is read keeps the rules, and is what is meant
-pub record SourceRead (mesh problem generate seed : Option (List ℕ)) (source : Source) : Type 0 where
+pub record SourceRead (mesh problem generate seed : Option (List ℕ)) (format : Format) (source : Source) : Type 0 where
   pub in_sets : SourceInSets mesh problem generate seed
-  pub rules : SourceRules mesh problem generate seed
-  pub source_is : source ≡ source_of mesh problem generate seed
+  pub rules : SourceRules mesh problem generate seed format
+  pub source_is : source ≡ source_of mesh problem generate seed format
 
-pub source_read : (mesh problem generate seed : Option (List ℕ)) (source : Source) → read_source mesh problem generate seed ≡ Some source → SourceRead mesh problem generate seed source
+pub source_read : (mesh problem generate seed : Option (List ℕ)) (format : Format) (source : Source) → read_source mesh problem generate seed format ≡ Some source →
+    SourceRead mesh problem generate seed format source
 unfolding read_source
-source_read (Some mesh) None None None source read =
-    let found = cond_then (is_name mesh) mesh (λ name. Some (texts name None)) source read in
+source_read (Some mesh) None None None format source read =
+    let found = cond_then (is_name mesh) mesh (λ name. Some (texts name format None)) source read in
     record {
       in_sets = record { mesh_in = found.0; problem_in = refl; generate_in = refl; seed_in = refl };
-      rules = record { one_source = refl; no_problem = refl; no_seed = refl; one_input = and_false (bytes_eq mesh (codes "-")) };
-      source_is = sym (injected (texts mesh None) source found.1);
+      rules = record { one_source = refl; no_problem = refl; no_seed = refl; one_input = and_false (bytes_eq mesh (codes "-")); no_format = and_false (is_msh format) };
+      source_is = sym (injected (texts mesh format None) source found.1);
     }
-source_read (Some mesh) (Some problem) None None source read =
-    let first = cond_then (is_name mesh) mesh (λ name. name_of problem >>= (λ second. two_texts name second)) source read in
-    let second = cond_then (is_name problem) problem (λ name. two_texts mesh name) source first.1 in
-    let apart = cond_else (is_standard (Some mesh) && is_standard (Some problem)) (texts mesh (Some problem)) source second.1 in
+source_read (Some mesh) (Some problem) None None format source read =
+    let first = cond_then (is_name mesh) mesh (λ name. name_of problem >>= (λ second. two_texts name format second)) source read in
+    let second = cond_then (is_name problem) problem (λ name. two_texts mesh format name) source first.1 in
+    let apart = cond_else (is_standard (Some mesh) && is_standard (Some problem)) (texts mesh format (Some problem)) source second.1 in
     record {
       in_sets = record { mesh_in = first.0; problem_in = second.0; generate_in = refl; seed_in = refl };
-      rules = record { one_source = refl; no_problem = refl; no_seed = refl; one_input = apart.0 };
+      rules = record { one_source = refl; no_problem = refl; no_seed = refl; one_input = apart.0; no_format = and_false (is_msh format) };
       source_is = sym apart.1;
     }
-source_read None None (Some cells) seed source read =
+source_read None None (Some cells) seed formats.Ucd source read =
     let found = cond_then (is_number_within 1 512 cells) (digits_value cells) (λ n. read_or 0 (number_within 0 18446744073709551615) seed >>= (λ s. Some (generated n s))) source read in
     let more = then_some (λ s. Some (generated (digits_value cells) s)) (read_or 0 (number_within 0 18446744073709551615) seed) source found.1 in
     let number = number_read 0 18446744073709551615 0 more.0 seed more.1 in
     record {
       in_sets = record { mesh_in = refl; problem_in = refl; generate_in = found.0; seed_in = number.0 };
-      rules = record { one_source = refl; no_problem = refl; no_seed = and_false (is_some seed); one_input = refl };
+      rules = record { one_source = refl; no_problem = refl; no_seed = and_false (is_some seed); one_input = refl; no_format = refl };
       source_is = sym (injected (generated (digits_value cells) more.0) source more.2) ∙ ap (λ s. generated (digits_value cells) s) number.1;
     }
-source_read _ _ _ _ source read = cc
+source_read _ _ _ _ _ source read = cc
 
-pub source_given : (mesh problem generate seed : Option (List ℕ)) → SourceInSets mesh problem generate seed → SourceRules mesh problem generate seed →
-    read_source mesh problem generate seed ≡ Some (source_of mesh problem generate seed)
+pub source_given : (mesh problem generate seed : Option (List ℕ)) (format : Format) → SourceInSets mesh problem generate seed → SourceRules mesh problem generate seed format →
+    read_source mesh problem generate seed format ≡ Some (source_of mesh problem generate seed format)
 unfolding read_source
-source_given (Some mesh) None None None in_sets rules = rw in_sets.mesh_in refl
-source_given (Some mesh) (Some problem) None None in_sets rules = rw (in_sets.mesh_in, in_sets.problem_in, rules.one_input) refl
-source_given None None (Some cells) seed in_sets rules = rw (in_sets.generate_in, number_given 0 18446744073709551615 0 seed in_sets.seed_in) refl
-source_given _ _ _ _ in_sets rules = cc
+source_given (Some mesh) None None None format in_sets rules = rw in_sets.mesh_in refl
+source_given (Some mesh) (Some problem) None None format in_sets rules = rw (in_sets.mesh_in, in_sets.problem_in, rules.one_input) refl
+source_given None None (Some cells) seed formats.Ucd in_sets rules = rw (in_sets.generate_in, number_given 0 18446744073709551615 0 seed in_sets.seed_in) refl
+source_given _ _ _ _ _ in_sets rules = cc
 
 -- what is written
 
@@ -269,21 +273,23 @@ pub record IsChosen (given : Given) (choice : Choice) : Type 0 where
 pub reading_given : (given : Given) → AreInSets given → KeepsRules given → reading given ≡ Some (chosen given)
 unfolding reading is_in_set
 reading_given given in_sets rules =
-    let mode = named_given mode_of modes.Serial (given.value names.Mode) (in_sets names.Mode) in
-    let source = source_given (given.value names.Mesh) (given.value names.Problem) (given.value names.Generate) (given.value names.Seed)
+    let mode = named_given mode_of (modes.System systems.Serial) (given.value names.Mode) (in_sets names.Mode) in
+    let format = named_given format_of formats.Ucd (given.value names.Format) (in_sets names.Format) in
+    let source = source_given (given.value names.Mesh) (given.value names.Problem) (given.value names.Generate) (given.value names.Seed) (format_in given)
     (record { mesh_in = in_sets names.Mesh; problem_in = in_sets names.Problem; generate_in = in_sets names.Generate; seed_in = in_sets names.Seed }) rules.source in
     let plan = plan_given given (record { workers = in_sets names.Workers; queue = in_sets names.Queue; chunk = in_sets names.Chunk; scratch = in_sets names.Scratch }) in
     let digits = number_given 0 64 0 (given.value names.Digits) (in_sets names.Digits) in
     let faces = named_given faces_of faces.None (given.value names.Faces) (in_sets names.Faces) in
     let output = output_given (given.value names.Matrix) (given.value names.Rhs) given.summary (has_sums (mode_in given))
     (record { matrix_in = in_sets names.Matrix; rhs_in = in_sets names.Rhs }) rules.output in
-    rw (mode, source, plan, digits, faces, output) refl
+    rw (mode, format, source, plan, digits, faces, output) refl
 
 abbrev put_together : Mode → Source → Plan → ℕ → Faces → Output → Choice
 put_together mode source plan digits faces output = record { mode = mode; source = source; plan = plan; digits = digits; faces = faces; output = output }
 
 pub record PartsInSets (given : Given) : Type 0 where
   pub mode_in : passes (λ word. is_some (mode_of word)) (given.value names.Mode) ≡ true
+  pub format_in : passes (λ word. is_some (format_of word)) (given.value names.Format) ≡ true
   pub source_in : SourceInSets (given.value names.Mesh) (given.value names.Problem) (given.value names.Generate) (given.value names.Seed)
   pub plan_in : PlanInSets given
   pub digits_in : passes (is_number_within 0 64) (given.value names.Digits) ≡ true
@@ -305,24 +311,28 @@ in_all_sets given parts names.Matrix = parts.output_in.matrix_in
 in_all_sets given parts names.Rhs = parts.output_in.rhs_in
 in_all_sets given parts names.Generate = parts.source_in.generate_in
 in_all_sets given parts names.Seed = parts.source_in.seed_in
+in_all_sets given parts names.Format = parts.format_in
 
-chosen_from : (given : Given) (choice : Choice) (m : Mode) (s : Source) (p : Plan) (d : ℕ) (f : Faces) (o : Output) →
-    read_or modes.Serial mode_of (given.value names.Mode) ≡ Some m →
-    read_source (given.value names.Mesh) (given.value names.Problem) (given.value names.Generate) (given.value names.Seed) ≡ Some s →
+chosen_from : (given : Given) (choice : Choice) (m : Mode) (t : Format) (s : Source) (p : Plan) (d : ℕ) (f : Faces) (o : Output) →
+    read_or (modes.System systems.Serial) mode_of (given.value names.Mode) ≡ Some m →
+    read_or formats.Ucd format_of (given.value names.Format) ≡ Some t →
+    read_source (given.value names.Mesh) (given.value names.Problem) (given.value names.Generate) (given.value names.Seed) t ≡ Some s →
     read_plan given ≡ Some p →
     read_or 0 (number_within 0 64) (given.value names.Digits) ≡ Some d →
     read_or faces.None faces_of (given.value names.Faces) ≡ Some f →
     read_output (given.value names.Matrix) (given.value names.Rhs) given.summary (has_sums m) ≡ Some o →
     put_together m s p d f o ≡ choice → IsChosen given choice
-chosen_from given choice m s p d f o m_read s_read p_read d_read f_read o_read is =
-    let mode = named_read mode_of modes.Serial m (given.value names.Mode) m_read in
-    let source = source_read (given.value names.Mesh) (given.value names.Problem) (given.value names.Generate) (given.value names.Seed) s s_read in
+chosen_from given choice m t s p d f o m_read t_read s_read p_read d_read f_read o_read is =
+    let mode = named_read mode_of (modes.System systems.Serial) m (given.value names.Mode) m_read in
+    let format = named_read format_of formats.Ucd t (given.value names.Format) t_read in
+    let read_in : Format → Type 0 = λ f. SourceRead (given.value names.Mesh) (given.value names.Problem) (given.value names.Generate) (given.value names.Seed) f s in
+    let source = subst read_in format.1 (source_read (given.value names.Mesh) (given.value names.Problem) (given.value names.Generate) (given.value names.Seed) t s s_read) in
     let plan = plan_read given p p_read in
     let digits = number_read 0 64 0 d (given.value names.Digits) d_read in
     let sides = named_read faces_of faces.None f (given.value names.Faces) f_read in
     let output = output_read (given.value names.Matrix) (given.value names.Rhs) given.summary (has_sums m) o o_read in
     record {
-      in_sets = in_all_sets given (record { mode_in = mode.0; source_in = source.in_sets; plan_in = plan.0; digits_in = digits.0; faces_in = sides.0; output_in = output.in_sets });
+      in_sets = in_all_sets given (record { mode_in = mode.0; format_in = format.0; source_in = source.in_sets; plan_in = plan.0; digits_in = digits.0; faces_in = sides.0; output_in = output.in_sets });
       rules = record {
         source = source.rules;
         output = subst (λ m. OutputRules (given.value names.Matrix) (given.value names.Rhs) given.summary (has_sums m)) mode.1 output.rules;
@@ -342,12 +352,14 @@ reading_tells given choice read =
     let behind_digits : Mode → Source → Plan → ℕ → Option Choice = λ m s p d. read_or faces.None faces_of (given.value names.Faces) >>= (λ f. behind_faces m s p d f) in
     let behind_plan : Mode → Source → Plan → Option Choice = λ m s p. read_or 0 (number_within 0 64) (given.value names.Digits) >>= (λ d. behind_digits m s p d) in
     let behind_source : Mode → Source → Option Choice = λ m s. read_plan given >>= (λ p. behind_plan m s p) in
-    let behind_mode : Mode → Option Choice = λ m.
-    read_source (given.value names.Mesh) (given.value names.Problem) (given.value names.Generate) (given.value names.Seed) >>= (λ s. behind_source m s) in
-    let m = then_some behind_mode (read_or modes.Serial mode_of (given.value names.Mode)) choice read in
-    let s = then_some (behind_source m.0) (read_source (given.value names.Mesh) (given.value names.Problem) (given.value names.Generate) (given.value names.Seed)) choice m.2 in
+    let behind_format : Mode → Format → Option Choice = λ m t.
+    read_source (given.value names.Mesh) (given.value names.Problem) (given.value names.Generate) (given.value names.Seed) t >>= (λ s. behind_source m s) in
+    let behind_mode : Mode → Option Choice = λ m. read_or formats.Ucd format_of (given.value names.Format) >>= (λ t. behind_format m t) in
+    let m = then_some behind_mode (read_or (modes.System systems.Serial) mode_of (given.value names.Mode)) choice read in
+    let t = then_some (behind_format m.0) (read_or formats.Ucd format_of (given.value names.Format)) choice m.2 in
+    let s = then_some (behind_source m.0) (read_source (given.value names.Mesh) (given.value names.Problem) (given.value names.Generate) (given.value names.Seed) t.0) choice t.2 in
     let p = then_some (behind_plan m.0 s.0) (read_plan given) choice s.2 in
     let d = then_some (behind_digits m.0 s.0 p.0) (read_or 0 (number_within 0 64) (given.value names.Digits)) choice p.2 in
     let f = then_some (behind_faces m.0 s.0 p.0 d.0) (read_or faces.None faces_of (given.value names.Faces)) choice d.2 in
     let o = then_some (λ o. Some (put_together m.0 s.0 p.0 d.0 f.0 o)) (read_output (given.value names.Matrix) (given.value names.Rhs) given.summary (has_sums m.0)) choice f.2 in
-    chosen_from given choice m.0 s.0 p.0 d.0 f.0 o.0 m.1 s.1 p.1 d.1 f.1 o.1 (injected (put_together m.0 s.0 p.0 d.0 f.0 o.0) choice o.2)
+    chosen_from given choice m.0 t.0 s.0 p.0 d.0 f.0 o.0 m.1 t.1 s.1 p.1 d.1 f.1 o.1 (injected (put_together m.0 s.0 p.0 d.0 f.0 o.0) choice o.2)

@@ -6,9 +6,10 @@ use Rattle.std.proofs.lemmas.Grind.{common_steps}
 use Rattle.fem_fixed.specs.Numbers.{digits_value}
 use Rattle.run_words.specs.declared.name.Name.{Name}
 use Rattle.run_words.specs.declared.name.Name.TheVariants as names
+use Rattle.run_words.specs.declared.options.Format.{Format}
 use Rattle.run_words.specs.Settings.{Given, given_by}
 use Rattle.run_words.specs.Values.{is_number, is_number_within, is_in_set}
-use Rattle.run_words.specs.Choice.{Choice, Source, texts, generated, number_or, plan_of, source_of, chosen}
+use Rattle.run_words.specs.Choice.{Choice, Source, texts, generated, number_or, plan_of, source_of, format_in, chosen}
 use Rattle.run_words.specs.Words.{passes, AreInSets, AskFor}
 use Rattle.run_words.specs.Ranges.{IsOfSize, IsPlan, IsWithinRanges}
 
@@ -20,10 +21,10 @@ value_within : (default least greatest : ℕ) (value : Option (List ℕ)) → le
 value_within default least greatest None low high is = (low, high)
 value_within default least greatest (Some word) low high is = number_within least greatest word is
 
-source_within : (mesh problem cells seed : Option (List ℕ)) → passes (is_in_set names.Generate) cells ≡ true → IsOfSize (source_of mesh problem cells seed)
+source_within : (mesh problem cells seed : Option (List ℕ)) (format : Format) → passes (is_in_set names.Generate) cells ≡ true → IsOfSize (source_of mesh problem cells seed format)
 unfolding is_in_set
-source_within mesh problem None seed is = tt
-source_within mesh problem (Some cells) seed is = number_within 1 512 cells is
+source_within mesh problem None seed format is = tt
+source_within mesh problem (Some cells) seed format is = number_within 1 512 cells is
 
 plan_within : (given : Given) → AreInSets given → IsPlan (plan_of given)
 unfolding is_in_set
@@ -44,7 +45,7 @@ unfolding is_in_set
 choice_within words choice asked =
     let given : Given = given_by asked.settings in
     let within : IsWithinRanges (chosen given) = record {
-      source = source_within (given.value names.Mesh) (given.value names.Problem) (given.value names.Generate) (given.value names.Seed) (asked.in_sets names.Generate);
+      source = source_within (given.value names.Mesh) (given.value names.Problem) (given.value names.Generate) (given.value names.Seed) (format_in given) (asked.in_sets names.Generate);
       plan = plan_within given asked.in_sets;
       digits = (value_within 0 0 64 (given.value names.Digits) (omega arith) (omega arith) (asked.in_sets names.Digits)).1;
     } in

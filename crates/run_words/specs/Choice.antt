@@ -7,6 +7,9 @@ use Rattle.fem_fixed.specs.Numbers.{digits_value}
 use Rattle.run_words.specs.declared.name.Name.TheVariants as names
 use Rattle.run_words.specs.declared.options.Mode.{Mode}
 use Rattle.run_words.specs.declared.options.Mode.TheVariants as modes
+use Rattle.run_words.specs.declared.options.SystemMode.TheVariants as systems
+use Rattle.run_words.specs.declared.options.Format.{Format}
+use Rattle.run_words.specs.declared.options.Format.TheVariants as formats
 use Rattle.run_words.specs.declared.options.Faces.{Faces}
 use Rattle.run_words.specs.declared.options.Faces.TheVariants as faces
 use Rattle.run_words.specs.declared.options.Plan.{Plan}
@@ -18,19 +21,24 @@ use Rattle.run_words.specs.declared.options.Output as rust_output
 use Rattle.run_words.specs.declared.options.Output.TheVariants as outputs
 use Rattle.run_words.specs.declared.options.Options as rust_options
 use Rattle.run_words.specs.Settings.{Given}
-use Rattle.run_words.specs.Values.{mode_of, faces_of}
+use Rattle.run_words.specs.Values.{mode_of, format_of, faces_of}
 
--- what is assembled: the mesh under a name with the problem under another, if any, or what is generated for
--- n cells in a row and a seed
+-- what is assembled: the mesh under a name, in a format, with the problem under another name, if any, or what is
+-- generated for n cells in a row and a seed
 pub data Source : Type 0 where
-  texts : List ℕ → Option (List ℕ) → Source
+  texts : List ℕ → Format → Option (List ℕ) → Source
   generated : ℕ → ℕ → Source
+
+-- the format of the mesh text of a source; what is generated is in UCD
+abbrev pub source_format : Source → Format
+source_format (texts mesh format problem) = format
+source_format (generated n seed) = formats.Ucd
 
 pub data Destination : Type 0 where
   standard : Destination
   named : List ℕ → Destination
 
--- what is written: the summary, or the matrix, pattern or colours, and the right side where it has a destination
+-- what is written: the summary, or the matrix, pattern, colours or mesh, and the right side where it has a destination
 pub data Output : Type 0 where
   summary : Output
   both : Destination → Option Destination → Output
@@ -46,7 +54,7 @@ pub record Choice : Type 0 where
 -- the same, as the program has it
 
 abbrev pub seen_source : rust_source.Source → Source
-seen_source (sources.Texts mesh problem) = texts mesh.now (option_copied problem)
+seen_source (sources.Texts mesh format problem) = texts mesh.now format (option_copied problem)
 seen_source (sources.Generated n seed) = generated n seed
 
 abbrev pub seen_destination : rust_destination.Destination → Destination
@@ -88,10 +96,10 @@ plan_of given =
       scratch = number_or workers (given.value names.Scratch);
     }
 
--- by the values of `--mesh`, `--problem`, `--generate` and `--seed`
-abbrev pub source_of : Option (List ℕ) → Option (List ℕ) → Option (List ℕ) → Option (List ℕ) → Source
-source_of mesh problem None seed = texts (unwrap_or mesh []) problem
-source_of mesh problem (Some cells) seed = generated (digits_value cells) (number_or 0 seed)
+-- by the values of `--mesh`, `--problem`, `--generate` and `--seed`, and the format
+abbrev pub source_of : Option (List ℕ) → Option (List ℕ) → Option (List ℕ) → Option (List ℕ) → Format → Source
+source_of mesh problem None seed format = texts (unwrap_or mesh []) format problem
+source_of mesh problem (Some cells) seed format = generated (digits_value cells) (number_or 0 seed)
 
 abbrev pub destination_of : List ℕ → Destination
 destination_of name = if bytes_eq name (codes "-") then standard else named name
@@ -102,13 +110,16 @@ output_of matrix rhs true = summary
 output_of matrix rhs false = both (unwrap_or (option_map destination_of matrix) standard) (option_map destination_of rhs)
 
 abbrev pub mode_in : Given → Mode
-mode_in given = named_or modes.Serial mode_of (given.value names.Mode)
+mode_in given = named_or (modes.System systems.Serial) mode_of (given.value names.Mode)
+
+abbrev pub format_in : Given → Format
+format_in given = named_or formats.Ucd format_of (given.value names.Format)
 
 -- what is asked for, with the defaults of the options that do not stand
 abbrev pub chosen : Given → Choice
 chosen given = record {
   mode = mode_in given;
-  source = source_of (given.value names.Mesh) (given.value names.Problem) (given.value names.Generate) (given.value names.Seed);
+  source = source_of (given.value names.Mesh) (given.value names.Problem) (given.value names.Generate) (given.value names.Seed) (format_in given);
   plan = plan_of given;
   digits = number_or 0 (given.value names.Digits);
   faces = named_or faces.None faces_of (given.value names.Faces);

@@ -5,7 +5,7 @@ use Rattle.run_words.specs.Choice.{Source, texts, generated, Choice}
 
 -- a grid has 1 to 512 cells in a row
 abbrev pub IsOfSize : Source → Type 0
-IsOfSize (texts mesh problem) = Unit {0}
+IsOfSize (texts mesh format problem) = Unit {0}
 IsOfSize (generated n seed) = (0 < n) × (n ≤ 512)
 
 -- 1 to 64 workers, 1 to 256 places, 1 to 64 cells in a piece, 1 to 64 scratch objects

@@ -6,10 +6,13 @@ use Rattle.std.specs.Str.{bytes_eq}
 use Rattle.fem_fixed.specs.Numbers.{digits_value}
 use Rattle.run_words.specs.declared.name.Name.TheVariants as names
 use Rattle.run_words.specs.declared.options.Mode.TheVariants as modes
+use Rattle.run_words.specs.declared.options.SystemMode.TheVariants as systems
+use Rattle.run_words.specs.declared.options.Format.{Format}
+use Rattle.run_words.specs.declared.options.Format.TheVariants as formats
 use Rattle.run_words.specs.declared.options.Faces.TheVariants as faces
 use Rattle.run_words.specs.declared.options.Plan.{Plan}
 use Rattle.run_words.specs.Settings.{Given}
-use Rattle.run_words.specs.Values.{is_name, is_number, is_number_within, mode_of, faces_of}
+use Rattle.run_words.specs.Values.{is_name, is_number, is_number_within, mode_of, format_of, faces_of}
 use Rattle.run_words.specs.Choice.{Source, texts, generated, Destination, standard, named, Output, summary, both, destination_of, Choice}
 use Rattle.run_words.specs.Words.{has_sums}
 
@@ -40,14 +43,15 @@ read_plan given = do
   Some (record { workers = workers; queue = queue; chunk = chunk; scratch = scratch })
 
 -- the names of the mesh and of the problem, where not both are `-`
-abbrev pub two_texts : List ℕ → List ℕ → Option Source
-two_texts mesh problem = if bytes_eq mesh (codes "-") && bytes_eq problem (codes "-") then None else Some (texts mesh (Some problem))
+abbrev pub two_texts : List ℕ → Format → List ℕ → Option Source
+two_texts mesh format problem = if bytes_eq mesh (codes "-") && bytes_eq problem (codes "-") then None else Some (texts mesh format (Some problem))
 
-unfoldable pub read_source : Option (List ℕ) → Option (List ℕ) → Option (List ℕ) → Option (List ℕ) → Option Source
-read_source (Some mesh) None None None = name_of mesh >>= (λ name. Some (texts name None))
-read_source (Some mesh) (Some problem) None None = name_of mesh >>= (λ first. name_of problem >>= (λ second. two_texts first second))
-read_source None None (Some cells) seed = number_within 1 512 cells >>= (λ n. read_or 0 (number_within 0 18446744073709551615) seed >>= (λ s. Some (generated n s)))
-read_source _ _ _ _ = None
+unfoldable pub read_source : Option (List ℕ) → Option (List ℕ) → Option (List ℕ) → Option (List ℕ) → Format → Option Source
+read_source (Some mesh) None None None format = name_of mesh >>= (λ name. Some (texts name format None))
+read_source (Some mesh) (Some problem) None None format = name_of mesh >>= (λ first. name_of problem >>= (λ second. two_texts first format second))
+read_source None None (Some cells) seed formats.Ucd =
+    number_within 1 512 cells >>= (λ n. read_or 0 (number_within 0 18446744073709551615) seed >>= (λ s. Some (generated n s)))
+read_source _ _ _ _ _ = None
 
 abbrev pub read_destination : List ℕ → Option Destination
 read_destination word = option_map destination_of (name_of word)
@@ -69,8 +73,9 @@ read_output _ _ _ _ = None
 
 unfoldable pub reading : Given → Option Choice
 reading given = do
-  mode ← read_or modes.Serial mode_of (given.value names.Mode)
-  source ← read_source (given.value names.Mesh) (given.value names.Problem) (given.value names.Generate) (given.value names.Seed)
+  mode ← read_or (modes.System systems.Serial) mode_of (given.value names.Mode)
+  format ← read_or formats.Ucd format_of (given.value names.Format)
+  source ← read_source (given.value names.Mesh) (given.value names.Problem) (given.value names.Generate) (given.value names.Seed) format
   plan ← read_plan given
   digits ← read_or 0 (number_within 0 64) (given.value names.Digits)
   faces ← read_or faces.None faces_of (given.value names.Faces)

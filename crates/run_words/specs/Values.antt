@@ -3,12 +3,17 @@ use Rattle.std.specs.Prelude.{ℕ, List, [], length, Bool, ◌&&◌, ◌||◌, n
 use Rattle.std.specs.Char.{is_ascii_digit}
 use Rattle.std.specs.declared.option.Option.{Option}
 use Rattle.std.specs.List.{list_all, starts_with}
+use Rattle.std.specs.Option.{option_map}
 use Rattle.std.specs.Str.{bytes_eq}
 use Rattle.fem_fixed.specs.Numbers.{digits_value}
 use Rattle.run_words.specs.declared.name.Name.{Name}
 use Rattle.run_words.specs.declared.name.Name.TheVariants as names
 use Rattle.run_words.specs.declared.options.Mode.{Mode}
 use Rattle.run_words.specs.declared.options.Mode.TheVariants as modes
+use Rattle.run_words.specs.declared.options.SystemMode.{SystemMode}
+use Rattle.run_words.specs.declared.options.SystemMode.TheVariants as systems
+use Rattle.run_words.specs.declared.options.Format.{Format}
+use Rattle.run_words.specs.declared.options.Format.TheVariants as formats
 use Rattle.run_words.specs.declared.options.Faces.{Faces}
 use Rattle.run_words.specs.declared.options.Faces.TheVariants as faces
 
@@ -24,14 +29,25 @@ is_number word = nat_lt 0 (length word) && nat_le (length word) 20 && list_all i
 abbrev pub is_number_within : ℕ → ℕ → List ℕ → Bool
 is_number_within least greatest word = is_number word && nat_le least (digits_value word) && nat_le (digits_value word) greatest
 
--- the names of modes
+-- the names of modes with texts of a system
+unfoldable pub system_mode_of : List ℕ → Option SystemMode
+system_mode_of word =
+    if bytes_eq word (codes "serial") then Some systems.Serial
+    else if bytes_eq word (codes "ordered") then Some systems.Ordered
+    else if bytes_eq word (codes "colored") then Some systems.Colored
+    else if bytes_eq word (codes "pattern") then Some systems.Pattern
+    else if bytes_eq word (codes "colors") then Some systems.Colors
+    else None
+
+-- the names of all modes
 unfoldable pub mode_of : List ℕ → Option Mode
-mode_of word =
-    if bytes_eq word (codes "serial") then Some modes.Serial
-    else if bytes_eq word (codes "ordered") then Some modes.Ordered
-    else if bytes_eq word (codes "colored") then Some modes.Colored
-    else if bytes_eq word (codes "pattern") then Some modes.Pattern
-    else if bytes_eq word (codes "colors") then Some modes.Colors
+mode_of word = if bytes_eq word (codes "mesh") then Some modes.Mesh else option_map modes.System (system_mode_of word)
+
+-- the names of formats
+unfoldable pub format_of : List ℕ → Option Format
+format_of word =
+    if bytes_eq word (codes "ucd") then Some formats.Ucd
+    else if bytes_eq word (codes "msh") then Some formats.Msh
     else None
 
 -- the names of what is visited
@@ -57,3 +73,4 @@ is_in_set names.Matrix value = is_name value
 is_in_set names.Rhs value = is_name value
 is_in_set names.Generate value = is_number_within 1 512 value
 is_in_set names.Seed value = is_number_within 0 18446744073709551615 value
+is_in_set names.Format value = is_some (format_of value)

@@ -7,9 +7,12 @@ use Rattle.run_words.specs.declared.name.Name.{Name}
 use Rattle.run_words.specs.declared.name.Name.TheVariants as names
 use Rattle.run_words.specs.declared.options.Mode.{Mode}
 use Rattle.run_words.specs.declared.options.Mode.TheVariants as modes
+use Rattle.run_words.specs.declared.options.SystemMode.TheVariants as systems
+use Rattle.run_words.specs.declared.options.Format.{Format}
+use Rattle.run_words.specs.declared.options.Format.TheVariants as formats
 use Rattle.run_words.specs.Settings.{Setting, words_of, StandsOnce, Given, given_by}
 use Rattle.run_words.specs.Values.{is_in_set}
-use Rattle.run_words.specs.Choice.{Choice, mode_in, chosen}
+use Rattle.run_words.specs.Choice.{Choice, mode_in, format_in, chosen}
 
 -- an option doesn't stand, or its value is in its set
 abbrev pub passes : (List ℕ → Bool) → Option (List ℕ) → Bool
@@ -31,20 +34,27 @@ are_same _ _ = false
 
 -- the modes that have sums, and so a right side and a summary
 abbrev pub has_sums : Mode → Bool
-has_sums modes.Serial = true
-has_sums modes.Ordered = true
-has_sums modes.Colored = true
-has_sums modes.Pattern = false
-has_sums modes.Colors = false
+has_sums (modes.System systems.Serial) = true
+has_sums (modes.System systems.Ordered) = true
+has_sums (modes.System systems.Colored) = true
+has_sums (modes.System systems.Pattern) = false
+has_sums (modes.System systems.Colors) = false
+has_sums modes.Mesh = false
 
--- the rules between `--mesh`, `--problem`, `--generate` and `--seed`
-pub record SourceRules (mesh problem generate seed : Option (List ℕ)) : Type 0 where
+abbrev pub is_msh : Format → Bool
+is_msh formats.Ucd = false
+is_msh formats.Msh = true
+
+-- the rules between `--mesh`, `--problem`, `--generate`, `--seed` and the format
+pub record SourceRules (mesh problem generate seed : Option (List ℕ)) (format : Format) : Type 0 where
   -- one of the mesh and the generator stands, and not both
   pub one_source : is_some mesh ≡ not (is_some generate)
   pub no_problem : (is_some problem && is_some generate) ≡ false
   pub no_seed : (is_some seed && not (is_some generate)) ≡ false
   -- standard input is read once
   pub one_input : (is_standard mesh && is_standard problem) ≡ false
+  -- what is generated is in UCD
+  pub no_format : (is_msh format && is_some generate) ≡ false
 
 -- the rules between `--matrix`, `--rhs`, `--summary` and the mode
 pub record OutputRules (matrix rhs : Option (List ℕ)) (summary sums : Bool) : Type 0 where
@@ -54,7 +64,7 @@ pub record OutputRules (matrix rhs : Option (List ℕ)) (summary sums : Bool) : 
   pub alone : (summary && (is_some matrix || is_some rhs)) ≡ false
 
 pub record KeepsRules (given : Given) : Type 0 where
-  pub source : SourceRules (given.value names.Mesh) (given.value names.Problem) (given.value names.Generate) (given.value names.Seed)
+  pub source : SourceRules (given.value names.Mesh) (given.value names.Problem) (given.value names.Generate) (given.value names.Seed) (format_in given)
   pub output : OutputRules (given.value names.Matrix) (given.value names.Rhs) given.summary (has_sums (mode_in given))
 
 -- the words ask for this: they are settings, no option stands twice, each value is in its set, the rules between

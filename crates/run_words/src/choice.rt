@@ -2,14 +2,14 @@ ghost use Rattle.std.specs.Prelude.{◌≡◌, length};
 ghost use Rattle.std.specs.Option.{option_map, option_copied};
 ghost use Rattle.run_words.specs.Held.{seen_settings};
 ghost use Rattle.run_words.specs.Words.{has_sums};
-ghost use Rattle.run_words.specs.Values.{mode_of, faces_of};
+ghost use Rattle.run_words.specs.Values.{mode_of, format_of, faces_of};
 ghost use Rattle.run_words.specs.Choice.{standard, seen, seen_source, seen_destination, seen_output, destination_of};
 ghost use Rattle.run_words.specs.Reading.{reading, read_or, read_plan, read_source, read_destination, read_output, two_texts, two_outputs, is_same_name};
 
 use crate::name::Name;
 use crate::settings::Settings;
-use crate::values::{faces_of, mode_of, name_of, number_or, number_within};
-use crate::{Destination, Faces, Mode, Options, Output, Plan, Source};
+use crate::values::{faces_of, format_of, mode_of, name_of, number_or, number_within};
+use crate::{Destination, Faces, Format, Mode, Options, Output, Plan, Source, SystemMode};
 
 /// What the options that stand ask for, where each value is in its set and the rules between options are kept.
 #[tactic(auto, unfolding(crate::specs::Reading::reading))]
@@ -17,11 +17,13 @@ pub(crate) fn options_of<'a>(settings: &Settings<'a>) -> Option<Options<'a>>
     ensures { option_map seen result ≡ reading (seen_settings settings.now) }
 {
     let mode = mode_or_serial(settings.value(Name::Mode))?;
+    let format = format_or_ucd(settings.value(Name::Format))?;
     let source = source_of(
         settings.value(Name::Mesh),
         settings.value(Name::Problem),
         settings.value(Name::Generate),
         settings.value(Name::Seed),
+        format,
     )?;
     let plan = plan_of(settings)?;
     let digits = number_or(0, 0, 64, settings.value(Name::Digits))?;
@@ -43,11 +45,20 @@ pub(crate) fn options_of<'a>(settings: &Settings<'a>) -> Option<Options<'a>>
 }
 
 fn mode_or_serial(value: Option<&str>) -> Option<Mode>
-    ensures { result ≡ read_or Mode.Serial mode_of (option_copied value.entry) }
+    ensures { result ≡ read_or (Mode.System SystemMode.Serial) mode_of (option_copied value.entry) }
 {
     match value {
         Some(word) => mode_of(word),
-        None => Some(Mode::Serial),
+        None => Some(Mode::System(SystemMode::Serial)),
+    }
+}
+
+fn format_or_ucd(value: Option<&str>) -> Option<Format>
+    ensures { result ≡ read_or Format.Ucd format_of (option_copied value.entry) }
+{
+    match value {
+        Some(word) => format_of(word),
+        None => Some(Format::Ucd),
     }
 }
 
@@ -82,23 +93,25 @@ fn source_of<'a>(
     problem: Option<&'a str>,
     generate: Option<&str>,
     seed: Option<&str>,
+    format: Format,
 ) -> Option<Source<'a>>
-    ensures { option_map seen_source result ≡ read_source (option_copied mesh.entry) (option_copied problem.entry) (option_copied generate.entry) (option_copied seed.entry) }
+    ensures { option_map seen_source result ≡ read_source (option_copied mesh.entry) (option_copied problem.entry) (option_copied generate.entry) (option_copied seed.entry) format }
 {
-    match (mesh, problem, generate, seed) {
-        (Some(mesh), None, None, None) => {
+    match (mesh, problem, generate, seed, format) {
+        (Some(mesh), None, None, None, format) => {
             let mesh = name_of(mesh)?;
             Some(Source::Texts {
                 mesh,
+                format,
                 problem: None,
             })
         }
-        (Some(mesh), Some(problem), None, None) => {
+        (Some(mesh), Some(problem), None, None, format) => {
             let mesh = name_of(mesh)?;
             let problem = name_of(problem)?;
-            two_texts(mesh, problem)
+            two_texts(mesh, format, problem)
         }
-        (None, None, Some(cells), seed) => {
+        (None, None, Some(cells), seed, Format::Ucd) => {
             let n = number_within(cells, 1, 512)?;
             let seed = match seed {
                 Some(word) => number_within(word, 0, u64::MAX)?,
@@ -111,14 +124,15 @@ fn source_of<'a>(
 }
 
 // A mesh and a problem, where not both are standard input.
-fn two_texts<'a>(mesh: &'a str, problem: &'a str) -> Option<Source<'a>>
-    ensures { option_map seen_source result ≡ two_texts mesh.now problem.now }
+fn two_texts<'a>(mesh: &'a str, format: Format, problem: &'a str) -> Option<Source<'a>>
+    ensures { option_map seen_source result ≡ two_texts mesh.now format problem.now }
 {
     if mesh == "-" && problem == "-" {
         return None;
     }
     Some(Source::Texts {
         mesh,
+        format,
         problem: Some(problem),
     })
 }
@@ -197,7 +211,7 @@ fn has_sums(mode: Mode) -> bool
     ensures { result ≡ has_sums mode }
 {
     match mode {
-        Mode::Serial | Mode::Ordered | Mode::Colored => true,
-        Mode::Pattern | Mode::Colors => false,
+        Mode::System(SystemMode::Serial | SystemMode::Ordered | SystemMode::Colored) => true,
+        Mode::System(SystemMode::Pattern | SystemMode::Colors) | Mode::Mesh => false,
     }
 }

@@ -10,6 +10,6 @@ mod settings;
 mod values;
 mod wait;
 
-pub use options::{Destination, Faces, Mode, Options, Output, Plan, Source};
+pub use options::{Destination, Faces, Format, Mode, Options, Output, Plan, Source, SystemMode};
 pub use reader::{choices_are_within, one_reading, read_words, words_have_a_reading};
 pub use wait::{ordered_is_named, wants_wait};

@@ -18,10 +18,11 @@ pub(crate) enum Name {
     Rhs,
     Generate,
     Seed,
+    Format,
 }
 
 impl Name {
-    pub(crate) const COUNT: usize = 13;
+    pub(crate) const COUNT: usize = 14;
 
     #[tactic(auto, unfolding(crate::specs::Names::spelled))]
     fn spelled(self) -> &'static str
@@ -41,6 +42,7 @@ impl Name {
             Name::Rhs => "--rhs",
             Name::Generate => "--generate",
             Name::Seed => "--seed",
+            Name::Format => "--format",
         }
     }
 
@@ -52,7 +54,7 @@ impl Name {
     }
 }
 
-const NAMES: [Name; 13] = [
+const NAMES: [Name; 14] = [
     Name::Mode,
     Name::Mesh,
     Name::Problem,
@@ -66,6 +68,7 @@ const NAMES: [Name; 13] = [
     Name::Rhs,
     Name::Generate,
     Name::Seed,
+    Name::Format,
 ];
 
 /// The option that a word spells.

@@ -1,6 +1,15 @@
 /// What a run makes.
 #[derive(Clone, Copy, Debug, PartialEq, Eq)]
 pub enum Mode {
+    /// Texts of the system of the mesh and the problem.
+    System(SystemMode),
+    /// The text of the mesh that is read, in UCD.
+    Mesh,
+}
+
+/// Which texts of a system a run makes.
+#[derive(Clone, Copy, Debug, PartialEq, Eq)]
+pub enum SystemMode {
     /// The sums, cell by cell.
     Serial,
     /// The same by threads that keep the order of the cells.
@@ -11,6 +20,15 @@ pub enum Mode {
     Pattern,
     /// The colours of the cells.
     Colors,
+}
+
+/// The format of a mesh text that is read.
+#[derive(Clone, Copy, Debug, PartialEq, Eq)]
+pub enum Format {
+    /// UCD of AVS.
+    Ucd,
+    /// MSH 2.2 of Gmsh.
+    Msh,
 }
 
 /// From which sides the interior faces are visited.
@@ -27,9 +45,11 @@ pub enum Faces {
 /// What is assembled.
 #[derive(Clone, Copy, Debug, PartialEq, Eq)]
 pub enum Source<'a> {
-    /// The mesh text under a name, with the problem text under another, if any. `-` is standard input.
+    /// The mesh text under a name, in a format, with the problem text under another name, if any. `-` is standard
+    /// input.
     Texts {
         mesh: &'a str,
+        format: Format,
         problem: Option<&'a str>,
     },
     /// The texts that are generated for n cells in a row and a seed.
@@ -62,7 +82,7 @@ pub enum Destination<'a> {
 pub enum Output<'a> {
     /// The summary, to standard output.
     Summary,
-    /// The matrix, pattern or colours, and the right side where it has a destination.
+    /// The matrix, pattern, colours or mesh, and the right side where it has a destination.
     Texts {
         matrix: Destination<'a>,
         right_side: Option<Destination<'a>>,

@@ -8,7 +8,7 @@ use crate::opening::{Opening, opening_of};
 pub(crate) struct Settings<'a> {
     values: [Option<&'a str>; Name::COUNT],
     summary: bool,
-    ghost full: { length values ≡ 13 },
+    ghost full: { length values ≡ 14 },
 }
 
 impl<'a> Settings<'a> {

@@ -1,9 +1,9 @@
 ghost use Rattle.std.specs.Prelude.{◌≡◌};
 ghost use Rattle.std.specs.Option.{option_copied};
-ghost use Rattle.run_words.specs.Values.{mode_of, faces_of};
+ghost use Rattle.run_words.specs.Values.{system_mode_of, mode_of, format_of, faces_of};
 ghost use Rattle.run_words.specs.Reading.{number_of, number_within, name_of, read_or};
 
-use crate::{Faces, Mode};
+use crate::{Faces, Format, Mode, SystemMode};
 
 /// The number of a word of one to twenty decimal digits. Leading zeros are allowed, and a sign is not.
 fn number_of(word: &str) -> Option<u128>
@@ -65,20 +65,44 @@ pub(crate) fn name_of(word: &str) -> Option<&str>
 pub(crate) fn mode_of(word: &str) -> Option<Mode>
     ensures { result ≡ mode_of word.now }
 {
+    if word == "mesh" {
+        return Some(Mode::Mesh);
+    }
+    let mode = system_mode_of(word)?;
+    Some(Mode::System(mode))
+}
+
+#[tactic(auto, unfolding(crate::specs::Values::system_mode_of))]
+fn system_mode_of(word: &str) -> Option<SystemMode>
+    ensures { result ≡ system_mode_of word.now }
+{
     if word == "serial" {
-        return Some(Mode::Serial);
+        return Some(SystemMode::Serial);
     }
     if word == "ordered" {
-        return Some(Mode::Ordered);
+        return Some(SystemMode::Ordered);
     }
     if word == "colored" {
-        return Some(Mode::Colored);
+        return Some(SystemMode::Colored);
     }
     if word == "pattern" {
-        return Some(Mode::Pattern);
+        return Some(SystemMode::Pattern);
     }
     if word == "colors" {
-        return Some(Mode::Colors);
+        return Some(SystemMode::Colors);
+    }
+    None
+}
+
+#[tactic(auto, unfolding(crate::specs::Values::format_of))]
+pub(crate) fn format_of(word: &str) -> Option<Format>
+    ensures { result ≡ format_of word.now }
+{
+    if word == "ucd" {
+        return Some(Format::Ucd);
+    }
+    if word == "msh" {
+        return Some(Format::Msh);
     }
     None
 }

@@ -1,4 +1,4 @@
--- The meshes of texts are of quadrilaterals.
+-- The meshes of texts in UCD are of quadrilaterals.
 use Rattle.std.proofs.Common.{◌≡◌, ◌∙◌, sym, ap, refl, subst, ℕ, zero, suc, ⊎_elim, true, false, List, [], ◌∷◌, ◌++◌, length, take, All, arith}
 use Rattle.std.specs.Prelude.{◌^◌, codes, Some, Ok, slice_index, nat_lt}
 use Rattle.std.specs.List.{slice_get}
@@ -13,7 +13,7 @@ use Rattle.fem_text.proofs.Values.{then_ok, line_ok}
 use Rattle.ucd_read.specs.declared.fault.UcdKind.TheVariants as kinds
 use Rattle.ucd_read.specs.Nodes.{ids_of}
 use Rattle.ucd_read.specs.Cells.{quads_of, node_at, corner_ids, corner_places, quad_line, edge_line, shape_of, shape_at, shaped_line, cell_line}
-use Rattle.ucd_read.specs.Ucd.{cell_behind}
+use Rattle.ucd_read.specs.Ucd.{Ucd, cell_behind}
 use Rattle.system_laws.specs.Laws.{AreQuadrilaterals, TextsHaveQuadrilaterals}
 
 abbrev pub HasFour : QuadSpec → Type 0
@@ -85,7 +85,7 @@ quads_well (cell ∷ cells) each =
     let w = each 0 cell refl in
     All-same HasFour (quads_of (cell ∷ cells)) (quads_of (cell ∷ []) ++ quads_of cells) (w.before cells) (All-append HasFour (quads_of (cell ∷ [])) (quads_of cells) w.four (quads_well cells (λ place other at. each (suc place) other at)))
 
-pub four_cornered : TextsHaveQuadrilaterals
+pub four_cornered : TextsHaveQuadrilaterals Ucd
 four_cornered text mesh ucd = let P : Mesh → Type 0 = λ m. AreQuadrilaterals m in subst P (sym ucd.mesh_is) (quads_well ucd.cells (λ place cell at.
     let (words, e) = line_ok kinds.TooFew (cell_behind ucd.nodes (take place ucd.cells)) _ cell (ucd.reads.cells_are.reads.each place cell at) in
     cell_well (ids_of ucd.nodes) (length (quads_of (take place ucd.cells))) words cell e))

@@ -2,7 +2,6 @@
 use Rattle.std.specs.Prelude.{◌≡◌, ℕ, List, length, All}
 use Rattle.std.specs.declared.result.Result.{Result}
 use Rattle.fem_fixed.specs.Mesh.{Mesh}
-use Rattle.ucd_read.specs.Ucd.{Ucd}
 use Rattle.problem_read.specs.Entries.{ProblemParts}
 use Rattle.mesh_visits.specs.declared.flags.Interior.{Interior}
 use Rattle.mesh_loop.specs.Setup.{MeshProblem}
@@ -24,6 +23,6 @@ AreQuadrilaterals parts = All (λ spec. length spec.corners ≡ 4) parts.quads
 abbrev pub HasASetUp : Type 0
 HasASetUp = (interior : Interior) (parts : Mesh) (problem : ProblemParts) → AreQuadrilaterals parts → (outcome : Result MeshProblem Refusal) × IsSetUp interior parts problem outcome
 
--- the meshes of texts are of quadrilaterals
-abbrev pub TextsHaveQuadrilaterals : Type 0
-TextsHaveQuadrilaterals = (text : List ℕ) (parts : Mesh) → Ucd text parts → AreQuadrilaterals parts
+-- the meshes of texts of a format are of quadrilaterals
+abbrev pub TextsHaveQuadrilaterals : (List ℕ → Mesh → Type 0) → Type 0
+TextsHaveQuadrilaterals IsOf = (text : List ℕ) (parts : Mesh) → IsOf text parts → AreQuadrilaterals parts

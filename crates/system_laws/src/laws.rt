@@ -1,4 +1,8 @@
+ghost use Rattle.ucd_read.specs.Ucd.{Ucd};
+ghost use Rattle.msh_read.specs.Msh.{Msh};
 ghost use Rattle.system_laws.specs.Laws.{HasOneSystem, HasASetUp, TextsHaveQuadrilaterals};
+
+use msh_read::quadrilaterals_have_four_corners;
 
 /// A mesh and a problem have at most one system: two outcomes of their set-up are one refusal, or two set-ups with
 /// the same cells, dofs and closed lines, the same pattern, the same part of each cell, and the same rows that each
@@ -13,7 +17,10 @@ pub fn a_mesh_has_a_set_up()
     ensures { HasASetUp }
 {}
 
-/// Each cell that a mesh text calls a quadrilateral has four corners.
+/// Each cell that a mesh text in UCD or in MSH calls a quadrilateral has four corners.
 pub fn texts_have_quadrilaterals()
-    ensures { TextsHaveQuadrilaterals }
-{}
+    ensures ucd { TextsHaveQuadrilaterals Ucd }
+    ensures msh { TextsHaveQuadrilaterals Msh }
+{
+    quadrilaterals_have_four_corners();
+}

@@ -9,8 +9,8 @@ use Rattle.serial_sum.specs.declared.sum.AssembleFault.{AssembleFault}
 use Rattle.sparsity.specs.declared.rows.Row.{Row}
 use Rattle.mesh_loop.specs.Setup.{MeshProblem, cells_of, pattern_of, written_rows}
 use Rattle.mesh_loop.specs.Sum.{parts_of}
-use Rattle.run_words.specs.declared.options.Mode.{Mode}
-use Rattle.run_words.specs.declared.options.Mode.TheVariants as modes
+use Rattle.run_words.specs.declared.options.SystemMode.{SystemMode}
+use Rattle.run_words.specs.declared.options.SystemMode.TheVariants as modes
 use Rattle.diagnostics.specs.declared.refusal.Refusal.{Refusal}
 use Rattle.system_texts.specs.Endings.{of_sum}
 use Rattle.diagnostics.specs.Stages.{Says}
@@ -20,7 +20,7 @@ abbrev pub IsColoringOf : MeshProblem → Coloring → Type 0
 IsColoringOf s = IsColoring (map (written_rows s) (cells_of s))
 
 -- the order in which a mode adds the cells: as they come, or colour by colour
-abbrev pub IsOrderOf : Mode → MeshProblem → List ℕ → Type 0
+abbrev pub IsOrderOf : SystemMode → MeshProblem → List ℕ → Type 0
 IsOrderOf modes.Serial s order = order ≡ cells_of s
 IsOrderOf modes.Ordered s order = order ≡ cells_of s
 IsOrderOf modes.Colored s order = (c : Coloring) × IsColoringOf s c × (order ≡ c.order)
@@ -33,11 +33,11 @@ SummedIn order digits s (Ok rows) = SumIs digits (pattern_of s) (parts_of s orde
 SummedIn order digits s (Err refusal) = Says of_sum (FaultIs digits (pattern_of s) (parts_of s order)) refusal
 
 -- the same in the order of a mode
-abbrev pub SummedBy : Mode → ℕ → MeshProblem → Result (List Row) Refusal → Type 0
+abbrev pub SummedBy : SystemMode → ℕ → MeshProblem → Result (List Row) Refusal → Type 0
 SummedBy mode digits s outcome = (order : List ℕ) × IsOrderOf mode s order × SummedIn order digits s outcome
 
 -- the modes that have no sums
-abbrev pub HasNoSums : Mode → Type 0
+abbrev pub HasNoSums : SystemMode → Type 0
 HasNoSums modes.Serial = ⊥
 HasNoSums modes.Ordered = ⊥
 HasNoSums modes.Colored = ⊥
@@ -45,11 +45,11 @@ HasNoSums modes.Pattern = Unit {0}
 HasNoSums modes.Colors = Unit {0}
 
 -- the rows of the sums, where the mode has sums
-abbrev pub Summed : Mode → ℕ → MeshProblem → Result (Option (List Row)) Refusal → Type 0
+abbrev pub Summed : SystemMode → ℕ → MeshProblem → Result (Option (List Row)) Refusal → Type 0
 Summed mode digits s (Ok (Some rows)) = SummedBy mode digits s (Ok rows)
 Summed mode digits s (Ok None) = HasNoSums mode
 Summed mode digits s (Err refusal) = SummedBy mode digits s (Err refusal)
 
 -- these are sums of the system, with some number of digits
-abbrev pub IsOfSums : Mode → MeshProblem → Option (List Row) → Type 0
+abbrev pub IsOfSums : SystemMode → MeshProblem → Option (List Row) → Type 0
 IsOfSums mode s rows = (digits : ℕ) × Summed mode digits s (Ok rows)

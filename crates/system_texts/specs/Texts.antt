@@ -9,23 +9,14 @@ use Rattle.matrix_market.specs.Texts.{matrix_text, vector_text, pattern_text}
 use Rattle.run_summary.specs.Summary.{summary_text}
 use Rattle.color_texts.specs.Text.{colors_text}
 use Rattle.mesh_loop.specs.Setup.{MeshProblem, cells_of, pattern_of}
-use Rattle.run_words.specs.declared.options.Mode.{Mode}
-use Rattle.run_words.specs.declared.options.Mode.TheVariants as modes
-use Rattle.run_words.specs.Choice.{Choice, Destination, standard, Output, summary, both}
+use Rattle.run_words.specs.declared.options.SystemMode.{SystemMode}
+use Rattle.run_words.specs.declared.options.SystemMode.TheVariants as modes
+use Rattle.run_words.specs.Choice.{Choice, Destination, Output, summary, both}
 use Rattle.diagnostics.specs.declared.refusal.Refusal.{Refusal}
-use Rattle.diagnostics.specs.declared.ending.Output.TheVariants.{Matrix, RightSide}
+use Rattle.diagnostics.specs.declared.ending.Output.TheVariants.{RightSide}
 use Rattle.diagnostics.specs.Stages.{Then}
-use Rattle.run_outputs.specs.Targets.{Target}
+use Rattle.run_outputs.specs.Targets.{Target, first_target}
 use Rattle.system_texts.specs.Sums.{IsColoringOf, Summed}
-
--- where the text goes that is written first
-abbrev pub first_destination : Output → Destination
-first_destination summary = standard
-first_destination (both matrix right_side) = matrix
-
--- what stands in place of a matrix
-abbrev pub first_target : Output → List ℕ → Target
-first_target output text = record { output = Matrix; destination = first_destination output; text = text }
 
 abbrev pub right_side_target : Destination → List Row → Target
 right_side_target destination rows = record { output = RightSide; destination = destination; text = vector_text (right_sides rows) }
@@ -44,7 +35,7 @@ sum_targets (both matrix (Some right_side)) s rows =
     first_target (both matrix (Some right_side)) (matrix_of s rows) ∷ right_side_target right_side rows ∷ []
 
 -- the text where there are no sums: of the colours of the cells, or of the pattern
-abbrev pub IsPlainText : Mode → MeshProblem → List ℕ → Type 0
+abbrev pub IsPlainText : SystemMode → MeshProblem → List ℕ → Type 0
 IsPlainText modes.Colors s text = (c : Coloring) × IsColoringOf s c × (text ≡ colors_text c)
 IsPlainText modes.Pattern s text = text ≡ pattern_text (pattern_of s)
 IsPlainText modes.Serial s text = ⊥
@@ -52,14 +43,14 @@ IsPlainText modes.Ordered s text = ⊥
 IsPlainText modes.Colored s text = ⊥
 
 -- the texts of these sums, if there are any
-abbrev pub AreTargets : Mode → Output → MeshProblem → Option (List Row) → List Target → Type 0
+abbrev pub AreTargets : SystemMode → Output → MeshProblem → Option (List Row) → List Target → Type 0
 AreTargets mode output s (Some rows) targets = targets ≡ sum_targets output s rows
 AreTargets mode output s None targets = (text : List ℕ) × IsPlainText mode s text × (targets ≡ first_target output text ∷ [])
 
-abbrev pub TextsOf : Mode → Output → MeshProblem → Option (List Row) → Result (List Target) Refusal → Type 0
+abbrev pub TextsOf : SystemMode → Output → MeshProblem → Option (List Row) → Result (List Target) Refusal → Type 0
 TextsOf mode output s rows (Ok targets) = AreTargets mode output s rows targets
 TextsOf mode output s rows (Err refusal) = ⊥
 
 -- the sums and then their texts
-abbrev pub SystemTexts : Choice → MeshProblem → Result (List Target) Refusal → Type 0
-SystemTexts choice s = Then (Summed choice.mode choice.digits s) (TextsOf choice.mode choice.output s)
+abbrev pub SystemTexts : SystemMode → Choice → MeshProblem → Result (List Target) Refusal → Type 0
+SystemTexts mode choice s = Then (Summed mode choice.digits s) (TextsOf mode choice.output s)

@@ -1,6 +1,6 @@
 ghost use Rattle.std.specs.Prelude.{◌≡◌, ◌≤◌, Ok, IfOk, IfErr};
 ghost use Rattle.mesh_loop.specs.Plans.{IsWithinRanges as IsPlanWithin};
-ghost use Rattle.run_words.specs.declared.options.Mode.TheVariants.{Colored, Ordered, Serial};
+ghost use Rattle.run_words.specs.declared.options.SystemMode.TheVariants.{Colored, Ordered, Serial};
 ghost use Rattle.run_words.specs.Choice.{seen};
 ghost use Rattle.run_words.specs.Ranges.{IsWithinRanges};
 ghost use Rattle.diagnostics.specs.Stages.{EndsIn};
@@ -13,7 +13,7 @@ use diagnostics::Ending;
 use fem_fixed::NoMemory;
 use mesh_loop::{Plan, Setup, assemble_serial, conflicts};
 use ordered_sum::assemble_ordered;
-use run_words::{Mode, Options};
+use run_words::{Options, SystemMode};
 use scratch_pool::Gate;
 use sparsity::Rows;
 use std::alloc::Global;
@@ -29,21 +29,26 @@ use std::thread::Threads;
 pub fn sum_rows<G: Gate + Sync, R: Threads + Sync>(
     rt: &R,
     alloc: Global,
+    mode: SystemMode,
     options: &Options<'_>,
     setup: &Setup,
     gate: &G,
 ) -> Result<Option<Rows>, Ending>
     requires within { IsWithinRanges (seen options.now) }
-    ensures ok { IfOk result (λ rows. Summed options.now.mode options.now.digits setup.now (Ok rows)) }
-    ensures refused { IfErr result (EndsIn (Summed options.now.mode options.now.digits setup.now)) }
+    ensures ok { IfOk result (λ rows. Summed mode options.now.digits setup.now (Ok rows)) }
+    ensures refused { IfErr result (EndsIn (Summed mode options.now.digits setup.now)) }
 {
-    match options.mode {
-        Mode::Pattern | Mode::Colors => Ok(None),
-        Mode::Serial | Mode::Ordered => match serial_rows(alloc, options.digits, setup) {
+    match mode {
+        SystemMode::Pattern | SystemMode::Colors => Ok(None),
+        SystemMode::Serial | SystemMode::Ordered => match serial_rows(
+            alloc,
+            options.digits,
+            setup,
+        ) {
             Ok(rows) => Ok(Some(rows)),
             Err(ending) => Err(ending),
         },
-        Mode::Colored => match colored_rows(rt, alloc, &plan_of(options), setup, gate) {
+        SystemMode::Colored => match colored_rows(rt, alloc, &plan_of(options), setup, gate) {
             Ok(rows) => Ok(Some(rows)),
             Err(ending) => Err(ending),
         },
@@ -58,20 +63,21 @@ pub fn sum_rows<G: Gate + Sync, R: Threads + Sync>(
 pub fn sum_rows_by_pipeline<G: Gate + Sync, R: Threads + Wait + Sync>(
     rt: &R,
     alloc: Global,
+    mode: SystemMode,
     options: &Options<'_>,
     setup: &Setup,
     gate: &G,
 ) -> Result<Option<Rows>, Ending>
     requires within { IsWithinRanges (seen options.now) }
-    ensures ok { IfOk result (λ rows. Summed options.now.mode options.now.digits setup.now (Ok rows)) }
-    ensures refused { IfErr result (EndsIn (Summed options.now.mode options.now.digits setup.now)) }
+    ensures ok { IfOk result (λ rows. Summed mode options.now.digits setup.now (Ok rows)) }
+    ensures refused { IfErr result (EndsIn (Summed mode options.now.digits setup.now)) }
 {
-    match options.mode {
-        Mode::Ordered => match ordered_rows(rt, alloc, &plan_of(options), setup, gate) {
+    match mode {
+        SystemMode::Ordered => match ordered_rows(rt, alloc, &plan_of(options), setup, gate) {
             Ok(rows) => Ok(Some(rows)),
             Err(ending) => Err(ending),
         },
-        _ => sum_rows(rt, alloc, options, setup, gate),
+        _ => sum_rows(rt, alloc, mode, options, setup, gate),
     }
 }
 

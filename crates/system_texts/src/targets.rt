@@ -6,7 +6,7 @@ ghost use Rattle.mesh_loop.specs.Setup.{pattern_of};
 ghost use Rattle.run_words.specs.Choice.{seen_output, seen_destination};
 ghost use Rattle.run_outputs.specs.Targets.{seen_target};
 ghost use Rattle.system_texts.specs.Sums.{HasNoSums, IsOfSums};
-ghost use Rattle.system_texts.specs.Texts.{first_target, right_side_target, sum_targets, IsPlainText, AreTargets};
+ghost use Rattle.system_texts.specs.Texts.{right_side_target, sum_targets, IsPlainText, AreTargets};
 
 use crate::sums::colors_of;
 use color_texts::colors_text;
@@ -14,9 +14,9 @@ use diagnostics::Output as Kind;
 use fem_fixed::NoMemory;
 use matrix_market::{matrix_text, pattern_text, vector_text};
 use mesh_loop::Setup;
-use run_outputs::Target;
+use run_outputs::{Target, first_target};
 use run_summary::summary_text;
-use run_words::{Destination, Mode, Output};
+use run_words::{Destination, Output, SystemMode};
 use sparsity::Rows;
 use std::alloc::Global;
 
@@ -25,7 +25,7 @@ use std::alloc::Global;
 #[tactic(auto, using(crate::proofs::Small::without_sums))]
 pub fn make_targets<'a>(
     alloc: Global,
-    mode: Mode,
+    mode: SystemMode,
     output: Output<'a>,
     setup: &Setup,
     rows: Option<Rows>,
@@ -38,7 +38,7 @@ pub fn make_targets<'a>(
         Some(rows) => sum_targets(alloc, output, setup, &rows),
         None => {
             let text = plain_text(alloc, mode, setup)?;
-            one_target(alloc, output, text)
+            first_target(alloc, output, text)
         }
     }
 }
@@ -57,21 +57,21 @@ fn sum_targets<'a>(
     match output {
         Output::Summary => {
             let text = summary_text(alloc, setup.cells(), setup.pattern(), rows)?;
-            one_target(alloc, output, text)
+            first_target(alloc, output, text)
         }
         Output::Texts {
             matrix: _,
             right_side: None,
         } => {
             let text = matrix_text(alloc, setup.pattern(), rows)?;
-            one_target(alloc, output, text)
+            first_target(alloc, output, text)
         }
         Output::Texts {
             matrix: _,
             right_side: Some(destination),
         } => {
             let text = matrix_text(alloc, setup.pattern(), rows)?;
-            let mut targets = one_target(alloc, output, text)?;
+            let mut targets = first_target(alloc, output, text)?;
             push_right_side(alloc, &mut targets, destination, rows)?;
             Ok(targets)
         }
@@ -98,35 +98,14 @@ fn push_right_side<'a>(
 
 // The text where there are no sums.
 #[tactic(auto, using(crate::proofs::Colorings::some_start))]
-fn plain_text(alloc: Global, mode: Mode, setup: &Setup) -> Result<Vec<u8>, NoMemory>
+fn plain_text(alloc: Global, mode: SystemMode, setup: &Setup) -> Result<Vec<u8>, NoMemory>
     requires { HasNoSums mode }
     ensures { IfOk result (λ text. IsPlainText mode setup.now text.items) }
 {
-    if mode == Mode::Colors {
+    if mode == SystemMode::Colors {
         let colors = colors_of(alloc, setup)?;
         colors_text(alloc, &colors, setup.cells())
     } else {
         pattern_text(alloc, setup.pattern())
     }
-}
-
-// The text that is written first, alone.
-fn one_target<'a>(
-    alloc: Global,
-    output: Output<'a>,
-    text: Vec<u8>,
-) -> Result<Vec<Target<'a>>, NoMemory>
-    ensures { IfOk result (λ targets. map seen_target targets.items ≡ first_target (seen_output output.entry) text.items ∷ []) }
-{
-    let destination = match output {
-        Output::Summary => Destination::Standard,
-        Output::Texts { matrix, .. } => matrix,
-    };
-    let mut targets = Vec::new(alloc);
-    targets.push(Target {
-        output: Kind::Matrix,
-        destination,
-        text,
-    })?;
-    Ok(targets)
 }

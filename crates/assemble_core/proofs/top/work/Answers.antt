@@ -4,7 +4,7 @@ use Rattle.std.specs.Prelude.{Ok, string_bytes}
 use Rattle.run_words.specs.Choice.{seen}
 use Rattle.run_outputs.specs.Targets.{seen_target}
 use Rattle.assemble_core.specs.Modes.{all_modes}
-use Rattle.assemble_core.specs.Answer.{Defines}
+use Rattle.run_targets.specs.Defines.{Defines}
 use Rattle.assemble_core.proofs.Endings.{words_leave, defining_leaves, written_leaves}
 use Rattle.assemble_core.proofs.top.work.Goals as goal
 

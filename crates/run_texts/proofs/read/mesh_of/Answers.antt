@@ -18,10 +18,10 @@ pub returns-clause-ok : goal.returns-clause-ok
 unfolding text_limit
 returns-clause-ok c =
     let short : length c.args.text.now ≤ text_limit = (let h = c.if-text-gt-TEXT_LIMIT.false in grind (arith, common_steps)) in
-    of_text_result roles.Mesh c.args.text.now MeshIn c.mesh_in.result short c.mesh_in.ensures.ok
+    of_text_result roles.Mesh c.args.text.now (MeshIn c.args.format) c.mesh_in.result short c.mesh_in.ensures.ok
 
 pub returns-clause-refused : goal.returns-clause-refused
 unfolding text_limit
 returns-clause-refused c =
     let short : length c.args.text.now ≤ text_limit = (let h = c.if-text-gt-TEXT_LIMIT.false in grind (arith, common_steps)) in
-    of_text_ends roles.Mesh c.args.text.now MeshIn c.mesh_in.result short c.mesh_in.ensures.refused
+    of_text_ends roles.Mesh c.args.text.now (MeshIn c.args.format) c.mesh_in.result short c.mesh_in.ensures.refused

@@ -1,0 +1,3 @@
+pub mod Setups
+pub mod Systems
+pub mod Definitions

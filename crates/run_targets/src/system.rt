@@ -1,0 +1,127 @@
+ghost use Rattle.std.specs.Prelude.{◌≡◌, ◌≤◌, ◌^◌, length, map, Ok, IfOk, IfErr};
+ghost use Rattle.std.specs.List.{concat};
+ghost use Rattle.ucd_read.specs.Bounds.{IsBounded};
+ghost use Rattle.mesh_loop.specs.Setup.{pattern_of};
+ghost use Rattle.run_words.specs.Choice.{seen};
+ghost use Rattle.run_words.specs.Ranges.{IsWithinRanges};
+ghost use Rattle.run_outputs.specs.Targets.{seen_target};
+ghost use Rattle.diagnostics.specs.Stages.{EndsIn};
+ghost use Rattle.system_setup.specs.SetUp.{IsSetUp};
+ghost use Rattle.system_texts.specs.Sums.{Summed};
+ghost use Rattle.system_texts.specs.Texts.{AreTargets, SystemTexts};
+ghost use Rattle.run_targets.specs.Defines.{Assembled};
+ghost use Rattle.run_targets.specs.Defines as meaning;
+
+use diagnostics::Ending;
+use fem_fixed::{MeshParts, NoMemory};
+use mesh_loop::Setup;
+use mesh_visits::Interior;
+use problem_read::Problem;
+use run_outputs::Target;
+use run_words::{Faces, Options, SystemMode};
+use scratch_pool::Gate;
+use sparsity::Rows;
+use std::alloc::Global;
+use std::sync::Wait;
+use std::thread::Threads;
+use system_setup::set_up;
+use system_texts::{make_targets, sum_rows, sum_rows_by_pipeline};
+
+/// The texts of the system of a mesh and a problem. It does not wait.
+pub(crate) fn plain_system<'a, R: Threads + Sync, G: Gate + Sync>(
+    rt: &R,
+    alloc: Global,
+    mode: SystemMode,
+    options: &Options<'a>,
+    read: (MeshParts, Problem),
+    gate: &G,
+) -> Result<Vec<Target<'a>>, Ending>
+    requires within { IsWithinRanges (seen options.now) }
+    requires bounded { IsBounded read.0 }
+    requires ids { length read.0.ids ≤ 2 ^ 20 }
+    ensures ok { IfOk result (λ targets. Assembled mode (seen options.now) read (Ok (map seen_target targets.items))) }
+    ensures ends { IfErr result (EndsIn (Assembled mode (seen options.now) read)) }
+{
+    let setup = match prepare(rt, alloc, options.faces, read) {
+        Ok(setup) => setup,
+        Err(ending) => return Err(ending),
+    };
+    let rows = match sum_rows(rt, alloc, mode, options, &setup, gate) {
+        Ok(rows) => rows,
+        Err(ending) => return Err(ending),
+    };
+    finish(alloc, mode, options, &setup, rows)
+}
+
+/// The same with a pipeline in the mode `ordered`. It may wait for another thread.
+pub(crate) fn any_system<'a, R: Threads + Wait + Sync, G: Gate + Sync>(
+    rt: &R,
+    alloc: Global,
+    mode: SystemMode,
+    options: &Options<'a>,
+    read: (MeshParts, Problem),
+    gate: &G,
+) -> Result<Vec<Target<'a>>, Ending>
+    requires within { IsWithinRanges (seen options.now) }
+    requires bounded { IsBounded read.0 }
+    requires ids { length read.0.ids ≤ 2 ^ 20 }
+    ensures ok { IfOk result (λ targets. Assembled mode (seen options.now) read (Ok (map seen_target targets.items))) }
+    ensures ends { IfErr result (EndsIn (Assembled mode (seen options.now) read)) }
+{
+    let setup = match prepare(rt, alloc, options.faces, read) {
+        Ok(setup) => setup,
+        Err(ending) => return Err(ending),
+    };
+    let rows = match sum_rows_by_pipeline(rt, alloc, mode, options, &setup, gate) {
+        Ok(rows) => rows,
+        Err(ending) => return Err(ending),
+    };
+    finish(alloc, mode, options, &setup, rows)
+}
+
+// Sets up. The mesh and the problem that the texts say are freed during it.
+fn prepare<R: Threads + Sync>(
+    rt: &R,
+    alloc: Global,
+    faces: Faces,
+    read: (MeshParts, Problem),
+) -> Result<Setup, Ending>
+    requires bounded { IsBounded read.0 }
+    requires ids { length read.0.ids ≤ 2 ^ 20 }
+    ensures ok { IfOk result (λ setup. IsSetUp (meaning.interior_of faces) read.0 read.1 (Ok setup)) }
+    ensures few { IfOk result (λ setup. length (concat (pattern_of setup)) ≤ 33554432) }
+    ensures ends { IfErr result (EndsIn (IsSetUp (meaning.interior_of faces) read.0 read.1)) }
+{
+    let (parts, problem) = read;
+    set_up(rt, alloc, parts, problem, interior_for(faces))
+}
+
+// The texts of sums.
+fn finish<'a>(
+    alloc: Global,
+    mode: SystemMode,
+    options: &Options<'a>,
+    setup: &Setup,
+    rows: Option<Rows>,
+) -> Result<Vec<Target<'a>>, Ending>
+    requires few { length (concat (pattern_of setup.now)) ≤ 33554432 }
+    requires sums { Summed mode options.now.digits setup.now (Ok rows) }
+    ensures ok { IfOk result (λ targets. SystemTexts mode (seen options.now) setup.now (Ok (map seen_target targets.items))) }
+    ensures ends { IfErr result (EndsIn (SystemTexts mode (seen options.now) setup.now)) }
+{
+    match make_targets(alloc, mode, options.output, setup, rows) {
+        Ok(targets) => Ok(targets),
+        Err(NoMemory) => Err(Ending::NoMemory),
+    }
+}
+
+// The interior faces that are visited.
+fn interior_for(faces: Faces) -> Interior
+    ensures { result ≡ meaning.interior_of faces }
+{
+    match faces {
+        Faces::None => Interior::None,
+        Faces::Once => Interior::Once,
+        Faces::Both => Interior::Both,
+    }
+}

@@ -1,0 +1,33 @@
+// Three unit squares round a corner: the material 1 below on the left, and the material 2 beside it and above it. Lines of the
+// outside have the boundary id 7, those at the inner corner the id 9.
+Point(1) = {0, 0, 0};
+Point(2) = {2, 0, 0};
+Point(3) = {2, 1, 0};
+Point(4) = {1, 1, 0};
+Point(5) = {1, 2, 0};
+Point(6) = {0, 2, 0};
+Point(7) = {0, 1, 0};
+Point(8) = {1, 0, 0};
+Line(1) = {1, 8};
+Line(2) = {8, 2};
+Line(3) = {2, 3};
+Line(4) = {3, 4};
+Line(5) = {4, 5};
+Line(6) = {5, 6};
+Line(7) = {6, 7};
+Line(8) = {7, 1};
+Line(9) = {8, 4};
+Line(10) = {4, 7};
+Curve Loop(1) = {1, 9, 10, 8};
+Curve Loop(2) = {2, 3, 4, -9};
+Curve Loop(3) = {-10, 5, 6, 7};
+Plane Surface(1) = {1};
+Plane Surface(2) = {2};
+Plane Surface(3) = {3};
+Transfinite Curve{1:10} = 2;
+Transfinite Surface{1:3};
+Recombine Surface{1:3};
+Physical Surface("brick", 1) = {1};
+Physical Surface("insulation", 2) = {2, 3};
+Physical Curve("outside", 7) = {1, 2, 3, 6, 7, 8};
+Physical Curve("inside", 9) = {4, 5};
