@@ -22,7 +22,7 @@ def coefficient_lines(rng):
         for word in ("diffusion", "source"):
             if rng.random() < 0.3:
                 lines.append(f"{word} {material} {value(rng)}")
-        if rng.random() < 0.2:
+        if rng.random() < 0.4:
             lines.append(f"subdomain {material} {rng.choice(SUBDOMAINS)}")
     for boundary in (0, 1, 2, 7, 4294967295):
         if rng.random() < 0.25:

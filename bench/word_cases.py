@@ -1,5 +1,6 @@
 """Random words of the program: every option in both spellings, and with faults of each kind."""
 
+SUBDOMAINS = ["0", "0", "1", "2", "5", "00", "0000000001", "7", "4294967295"]
 MODES = ["serial", "serial", "serial", "pattern", "colors", "colored", "ordered", "mesh"]
 
 
@@ -14,7 +15,19 @@ def some_settings(rng):
         chosen.append(("--digits", rng.choice(["0", "1", "5", "24", "53", "64", "00024"])))
     if rng.random() < 0.5:
         chosen.append(("--faces", rng.choice(["none", "once", "both"])))
-    return chosen + some_outputs(rng, mode)
+    return chosen + some_parts(rng) + some_outputs(rng, mode)
+
+
+def some_parts(rng):
+    """The options that say of which subdomain a run is, and what it does at its border."""
+    if rng.random() < 0.6:
+        return []
+    chosen = [("--subdomain", rng.choice(SUBDOMAINS))]
+    if rng.random() < 0.8:
+        chosen.append(("--ghost", rng.choice(["none", "once", "both"])))
+    if rng.random() < 0.4:
+        chosen.append(("--ghost-cells", None))
+    return chosen
 
 
 def some_outputs(rng, mode):
@@ -64,7 +77,9 @@ EXTRA = [["--fast"], ["--help"], ["--version"], ["--"], ["-"], ["x"], [""], ["--
          ["--digits=000000000000000000001"], ["--digits=99999999999999999999"], ["--generate=0"], ["--generate=513"],
          ["--seed=18446744073709551616"], ["--seed=1"], ["--summary"], ["--rhs=-"], ["--matrix=-"], ["--mode=ordered"],
          ["--matrix=r.mtx"], ["--rhs=m.mtx"], ["--format=msh"], ["--format=ucd"], ["--format", "MSH"], ["--format=avs"], ["--format="],
-         ["--mode=mesh"], ["--mode=product"], ["--problem=-"], ["--mesh=-"], ["--workers=00000000000000000004"]]
+         ["--subdomain=1"], ["--subdomain=4294967296"],
+         ["--subdomain=00000000001"], ["--subdomain", "-1"], ["--subdomain="], ["--ghost=once"], ["--ghost=all"], ["--ghost=none"],
+         ["--ghost-cells"], ["--ghost-cells", "x"], ["--ghost-cells="], ["--mode=mesh"], ["--mode=product"], ["--problem=-"], ["--mesh=-"], ["--workers=00000000000000000004"]]
 
 
 def spelled_words(rng, settings):

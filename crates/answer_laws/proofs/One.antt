@@ -14,7 +14,7 @@ use Rattle.diagnostics.specs.Stages.{stops, goes}
 use Rattle.run_texts.specs.Read.{SourceRead}
 use Rattle.system_laws.specs.Laws.{HasOneSystem}
 use Rattle.assemble_core.specs.Answer.{Asked}
-use Rattle.run_targets.specs.Defines.{interior_of, Assembled, Made, Defines}
+use Rattle.run_targets.specs.Defines.{flags_of, Assembled, Made, Defines}
 use Rattle.answer_laws.specs.Parts.{AreKnown, HaveOneReading, HaveOneListOfTexts, HaveOneAnswerWhereKnown}
 use Rattle.answer_laws.proofs.Steps.{Agree, one_after}
 
@@ -34,11 +34,11 @@ module _ (one_choice : (words : List (List ℕ)) (first second : Choice) → Ask
 
   -- two set-ups agree, so their texts are the same
   one_assembled : (mode : SystemMode) (choice : Choice) (read : Mesh × ProblemParts) → Agree (Assembled mode choice read) (Assembled mode choice read)
-  one_assembled mode choice read a b (stops r w e) (stops q v f) = e ∙ ap Err (one_system (interior_of choice.faces) read.0 read.1 (Err r) (Err q) w v) ∙ sym f
-  one_assembled mode choice read a b (stops r w e) (goes t v k) = absurd (one_system (interior_of choice.faces) read.0 read.1 (Err r) (Ok t) w v)
-  one_assembled mode choice read a b (goes s w h) (stops q v f) = absurd (one_system (interior_of choice.faces) read.0 read.1 (Ok s) (Err q) w v)
+  one_assembled mode choice read a b (stops r w e) (stops q v f) = e ∙ ap Err (one_system (flags_of choice) read.0 read.1 (Err r) (Err q) w v) ∙ sym f
+  one_assembled mode choice read a b (stops r w e) (goes t v k) = absurd (one_system (flags_of choice) read.0 read.1 (Err r) (Ok t) w v)
+  one_assembled mode choice read a b (goes s w h) (stops q v f) = absurd (one_system (flags_of choice) read.0 read.1 (Ok s) (Err q) w v)
   one_assembled mode choice read a b (goes s w h) (goes t v k) =
-      one_list mode choice s t (one_system (interior_of choice.faces) read.0 read.1 (Ok s) (Ok t) w v) a b h k
+      one_list mode choice s t (one_system (flags_of choice) read.0 read.1 (Ok s) (Ok t) w v) a b h k
 
   one_made : (mode : Mode) (choice : Choice) (read : Mesh × ProblemParts) → Agree (Made mode choice read) (Made mode choice read)
   one_made (modes.System mode) choice read a b h k = one_assembled mode choice read a b h k

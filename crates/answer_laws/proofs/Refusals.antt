@@ -31,7 +31,7 @@ use Rattle.serial_sum.specs.declared.sum.AssembleFault.{AssembleFault}
 use Rattle.serial_sum.specs.declared.sum.AssembleFault.TheVariants as sums
 use Rattle.affine_constraints.specs.Lines.{AffineLine}
 use Rattle.sparsity.specs.declared.rows.Row.{Row}
-use Rattle.mesh_visits.specs.declared.flags.Interior.{Interior}
+use Rattle.mesh_visits.specs.declared.flags.Flags.{Flags}
 use Rattle.mesh_loop.specs.Setup.{MeshProblem}
 use Rattle.run_words.specs.declared.options.Mode.{Mode}
 use Rattle.run_words.specs.declared.options.Mode.TheVariants as modes
@@ -57,7 +57,7 @@ use Rattle.system_setup.specs.SetUp.{CoarseOf, RefinedFrom, LinesFor, PatternedF
 use Rattle.system_texts.specs.Sums.{SummedBy, Summed}
 use Rattle.system_texts.specs.Texts.{TextsOf}
 use Rattle.assemble_core.specs.Answer.{AreRefused, Asked, Answers}
-use Rattle.run_targets.specs.Defines.{interior_of, MeshTexts, Assembled, Made, Defines}
+use Rattle.run_targets.specs.Defines.{flags_of, MeshTexts, Assembled, Made, Defines}
 use Rattle.assemble_core.specs.Run as run
 use Rattle.assemble_core.specs.Run.{Outside, Leaves}
 use Rattle.answer_laws.specs.Runs.{RefusedWordsHaveStatus2}
@@ -175,14 +175,14 @@ refined_keeps mesh problem refusal is = says_keeps _ _ refining_keeps refusal is
 lines_keep : (ids : List ℕ) (problem : ProblemParts) (forest : RefinedMesh) → KeepsWords (LinesFor ids problem forest)
 lines_keep ids problem forest refusal is = says_keeps _ _ constraints_keep refusal is
 
-pattern_keeps : (interior : Interior) (problem : ProblemParts) (forest : RefinedMesh) (table : List (Option AffineLine)) → KeepsWords (PatternedFor interior problem forest table)
-pattern_keeps interior problem forest table refusal is same = (let e : Limit _ ≡ Words = sym is.3 ∙ same in cc)
+pattern_keeps : (flags : Flags) (problem : ProblemParts) (forest : RefinedMesh) (table : List (Option AffineLine)) → KeepsWords (PatternedFor flags problem forest table)
+pattern_keeps flags problem forest table refusal is same = (let e : Limit _ ≡ Words = sym is.3 ∙ same in cc)
 
-set_up_keeps : (interior : Interior) (parts : MeshParts) (problem : ProblemParts) → KeepsWords (IsSetUp interior parts problem)
-set_up_keeps interior parts problem =
+set_up_keeps : (flags : Flags) (parts : MeshParts) (problem : ProblemParts) → KeepsWords (IsSetUp flags parts problem)
+set_up_keeps flags parts problem =
     then_keeps _ _ (coarse_mesh_keeps parts.points parts.quads parts.lines)
     (λ mesh. then_keeps _ _ (refined_keeps mesh problem)
-    (λ forest. then_keeps _ _ (lines_keep parts.ids problem forest) (pattern_keeps interior problem forest)))
+    (λ forest. then_keeps _ _ (lines_keep parts.ids problem forest) (pattern_keeps flags problem forest)))
 
 -- the sums and their texts
 sum_keeps : (mode : SystemMode) (digits : ℕ) (s : MeshProblem) → KeepsWords (SummedBy mode digits s)
@@ -196,7 +196,7 @@ targets_keep mode output s rows refusal is same = is
 
 assembled_keeps : (mode : SystemMode) (choice : Choice) (read : MeshParts × ProblemParts) → KeepsWords (Assembled mode choice read)
 assembled_keeps mode choice read =
-    then_keeps _ _ (set_up_keeps (interior_of choice.faces) read.0 read.1) (λ s. then_keeps _ _ (all_sums_keep mode choice.digits s) (targets_keep mode choice.output s))
+    then_keeps _ _ (set_up_keeps (flags_of choice) read.0 read.1) (λ s. then_keeps _ _ (all_sums_keep mode choice.digits s) (targets_keep mode choice.output s))
 
 mesh_texts_keep : (output : Output) (mesh : MeshParts) → KeepsWords (MeshTexts output mesh)
 mesh_texts_keep output mesh refusal is same = cc

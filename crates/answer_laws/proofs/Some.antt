@@ -24,7 +24,7 @@ use Rattle.system_texts.specs.Texts.{SystemTexts}
 use Rattle.system_laws.specs.Laws.{AreQuadrilaterals, HasASetUp, TextsHaveQuadrilaterals}
 use Rattle.diagnostics.specs.declared.refusal.Refusal.TheVariants.{Words}
 use Rattle.assemble_core.specs.Answer.{Asked}
-use Rattle.run_targets.specs.Defines.{interior_of, Assembled, Made, Defines}
+use Rattle.run_targets.specs.Defines.{flags_of, Assembled, Made, Defines}
 use Rattle.answer_laws.specs.Parts.{HaveAReading, HaveAListOfTexts}
 use Rattle.answer_laws.specs.Existence.{HaveAnAnswer}
 use Rattle.answer_laws.proofs.Steps.{HasAnOutcome, some_after}
@@ -53,7 +53,7 @@ module _ (one_choice : (words : List (List ℕ)) (first second : Choice) → Ask
 
   some_assembled : (mode : SystemMode) (choice : Choice) (read : Mesh × ProblemParts) → AreQuadrilaterals read.0 → HasAnOutcome (Assembled mode choice read)
   some_assembled mode choice read four =
-      some_after (IsSetUp (interior_of choice.faces) read.0 read.1) (SystemTexts mode choice) (some_set_up (interior_of choice.faces) read.0 read.1 four) (λ s is. some_list mode choice s)
+      some_after (IsSetUp (flags_of choice) read.0 read.1) (SystemTexts mode choice) (some_set_up (flags_of choice) read.0 read.1 four) (λ s is. some_list mode choice s)
 
   some_made : (mode : Mode) (choice : Choice) (read : Mesh × ProblemParts) → AreQuadrilaterals read.0 → HasAnOutcome (Made mode choice read)
   some_made (modes.System mode) choice read four = some_assembled mode choice read four

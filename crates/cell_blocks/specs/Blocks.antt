@@ -1,7 +1,8 @@
 -- The block of a visit, and the blocks of a cell.
-use Rattle.std.specs.Prelude.{ℕ, List, [], ◌∷◌, ◌++◌, map, slice_index, slice_index_or, ℤ, Some, None, Ok, Err}
+use Rattle.std.specs.Prelude.{ℕ, List, [], ◌∷◌, ◌++◌, length, map, slice_index, slice_index_or, ℤ, Some, None, Ok, Err}
 use Rattle.std.specs.declared.option.Option.{Option}
 use Rattle.std.specs.declared.result.Result.{Result}
+use Rattle.std.specs.List.{range_with_len}
 use Rattle.fem_fixed.specs.declared.mesh.Point.{Point}
 use Rattle.quad_mesh.specs.Faces.{quad_at}
 use Rattle.quad_mesh.specs.Geometry.{point_at}
@@ -10,7 +11,7 @@ use Rattle.hanging_refine.specs.Refined.{RefinedMesh, active_at, cell_at}
 use Rattle.hanging_refine.specs.Points.{cell_points}
 use Rattle.dof_numbers.specs.Dofs.{Numbering}
 use Rattle.problem_read.specs.Entries.{ProblemParts}
-use Rattle.problem_read.specs.LookUps.{diffusion_on, source_on, robin_on, penalty_in}
+use Rattle.problem_read.specs.LookUps.{diffusion_on, source_on, robin_on, penalty_in, subdomain_on}
 use Rattle.fixed_q1.specs.declared.fault.LocalFault.{LocalFault}
 use Rattle.fixed_q1.specs.declared.places.Part.{Part}
 use Rattle.fixed_q1.specs.declared.places.Part.TheVariants.{Whole, Half0, Half1}
@@ -23,7 +24,7 @@ use Rattle.cell_blocks.specs.LocalBlocks.{LocalBlock}
 use Rattle.mesh_visits.specs.declared.flags.Flags.{Flags}
 use Rattle.mesh_visits.specs.declared.visit.Visit.{Visit}
 use Rattle.mesh_visits.specs.declared.visit.Visit.TheVariants.{Cell as OnCell, Boundary as OnBoundary, Interior as OnPart}
-use Rattle.mesh_visits.specs.Visits.{visits_of}
+use Rattle.mesh_visits.specs.Runs.{subdomain_in, visits_of}
 
 -- what blocks are made of
 pub record Given : Type 0 where
@@ -100,6 +101,17 @@ all_blocks (block ∷ blocks) = in_front block (all_blocks blocks)
 unfoldable pub blocks_of : Given → ℕ → List Visit → Result (List LocalBlock) LocalFault
 blocks_of given cell visits = all_blocks (map (block_of given cell) visits)
 
+-- the subdomain of an active cell: that of its material
+abbrev pub cell_subdomain : Given → ℕ → ℕ
+cell_subdomain given cell = subdomain_on given.problem (material_of given cell)
+
+unfoldable pub subdomains_of : Given → List ℕ
+subdomains_of given = map (cell_subdomain given) (range_with_len 0 (length given.forest.cells))
+
+-- the visits of a cell in the run of these flags
+abbrev pub visits_in : Flags → Given → ℕ → List Visit
+visits_in flags given cell = visits_of (subdomain_in (subdomains_of given)) flags given.forest cell
+
 -- the blocks of a cell
 abbrev pub cell_blocks : Flags → Given → ℕ → Result (List LocalBlock) LocalFault
-cell_blocks flags given cell = blocks_of given cell (visits_of flags given.forest cell)
+cell_blocks flags given cell = blocks_of given cell (visits_in flags given cell)

@@ -1,5 +1,5 @@
 -- Sums of squared jumps, part by part.
-use Rattle.std.proofs.Common.{◌≡◌, ◌∙◌, sym, ap, ap₂, refl, ℕ, ◌+◌, List, [], ◌∷◌, ◌++◌, map, ℤ, Ok, Err, arith, append-nil}
+use Rattle.std.proofs.Common.{◌≡◌, ◌∙◌, sym, ap, ap₂, refl, ℕ, ◌+◌, ◌<◌, length, List, [], ◌∷◌, ◌++◌, map, ℤ, Ok, Err, arith, append-nil}
 use Rattle.std.specs.Prelude.{sum}
 use Rattle.std.specs.declared.result.Result.{Result}
 use Rattle.std.specs.List.{flat_map}
@@ -10,9 +10,13 @@ use Rattle.hanging_refine.specs.Refined.{RefinedMesh}
 use Rattle.dof_numbers.specs.Dofs.{Numbering}
 use Rattle.fixed_q1.specs.declared.fault.LocalFault.{LocalFault}
 use Rattle.mesh_visits.specs.declared.visit.Visit.{Visit}
-use Rattle.mesh_visits.specs.Visits.{face_visits, faces_visits, visits_of}
+use Rattle.hanging_refine.specs.declared.sides.ActiveSide.{ActiveSide}
+use Rattle.hanging_refine.specs.Grown.{IsGrown}
+use Rattle.hanging_refine.specs.Sides.{IsSideOf, MeetsOnly}
+use Rattle.mesh_visits.specs.SideVisits.{side_parts}
+use Rattle.mesh_visits.proofs.BySide.{parts_by_side}
 use Rattle.jump_refine.specs.Jumps.{part_factors, part_dofs, squared_jump}
-use Rattle.jump_refine.specs.Indicator.{square_of, fault_with, part_square, part_fault, unless_fault, parts_alone, parts_of}
+use Rattle.jump_refine.specs.Indicator.{square_of, fault_with, part_square, part_fault, unless_fault, face_parts, parts_of}
 use Rattle.jump_refine.specs.Steps.{squares_at, added}
 
 sum-cons : (x : ℕ) (xs : List ℕ) → sum (x ∷ xs) ≡ x + sum xs
@@ -66,55 +70,61 @@ pub second_fails : (forest : RefinedMesh) (dofs : Numbering) (values : List ℤ)
     Err e ≡ squares_at forest dofs values cell (xs ++ ys)
 second_fails forest dofs values cell xs ys a e h i = sym (squares_append forest dofs values cell xs ys ∙ ap₂ added (sym h) (sym i))
 
+-- the parts of a face are those that its side tells
+pub face_parts_by_side : (forest : RefinedMesh) (c f : ℕ) (side : ActiveSide) → IsGrown forest → c < length forest.cells → f < 4 → IsSideOf forest c f side → MeetsOnly forest c f side →
+    face_parts forest c f ≡ side_parts f side
+unfolding face_parts
+face_parts_by_side forest c f side grown hc hf is only = parts_by_side forest c f side grown hc hf is only
+
 -- the parts of a cell are those of its four faces
 pub faces_are : (forest : RefinedMesh) (cell : ℕ) →
-    parts_of forest cell ≡ face_visits parts_alone forest (cell, 0) ++ (face_visits parts_alone forest (cell, 1) ++ (face_visits parts_alone forest (cell, 2) ++ face_visits parts_alone forest (cell, 3)))
-unfolding parts_of visits_of faces_visits
+    parts_of forest cell ≡ face_parts forest cell 0 ++ (face_parts forest cell 1 ++ (face_parts forest cell 2 ++ face_parts forest cell 3))
+unfolding parts_of
 faces_are forest cell =
-    ap (λ xs. face_visits parts_alone forest (cell, 0) ++ (face_visits parts_alone forest (cell, 1) ++ (face_visits parts_alone forest (cell, 2) ++ xs))) (append-nil (face_visits parts_alone forest (cell, 3)))
+    ap (λ xs. face_parts forest cell 0 ++ (face_parts forest cell 1 ++ (face_parts forest cell 2 ++ xs))) (append-nil (face_parts forest cell 3))
 
 faces : RefinedMesh → ℕ → List Visit
-faces forest cell = face_visits parts_alone forest (cell, 0) ++ (face_visits parts_alone forest (cell, 1) ++ (face_visits parts_alone forest (cell, 2) ++ face_visits parts_alone forest (cell, 3)))
+faces forest cell = face_parts forest cell 0 ++ (face_parts forest cell 1 ++ (face_parts forest cell 2 ++ face_parts forest cell 3))
 
 by_faces : (forest : RefinedMesh) (dofs : Numbering) (values : List ℤ) (cell : ℕ) (r : Result ℕ (ℕ × LocalFault)) → r ≡ squares_at forest dofs values cell (faces forest cell) → r ≡ squares_at forest dofs values cell (parts_of forest cell)
 unfolding faces
 by_faces forest dofs values cell r e = e ∙ sym (ap (squares_at forest dofs values cell) (faces_are forest cell))
 
 -- the first of the four faces that fails
-pub left_fails : (forest : RefinedMesh) (dofs : Numbering) (values : List ℤ) (cell : ℕ) (e : ℕ × LocalFault) → Err e ≡ squares_at forest dofs values cell (face_visits parts_alone forest (cell, 0)) →
+pub left_fails : (forest : RefinedMesh) (dofs : Numbering) (values : List ℤ) (cell : ℕ) (e : ℕ × LocalFault) → Err e ≡ squares_at forest dofs values cell (face_parts forest cell 0) →
     Err e ≡ squares_at forest dofs values cell (parts_of forest cell)
 unfolding faces
-left_fails forest dofs values cell e h = by_faces forest dofs values cell (Err e) (first_fails forest dofs values cell (face_visits parts_alone forest (cell, 0)) _ e h)
+left_fails forest dofs values cell e h = by_faces forest dofs values cell (Err e) (first_fails forest dofs values cell (face_parts forest cell 0) _ e h)
 
-pub right_fails : (forest : RefinedMesh) (dofs : Numbering) (values : List ℤ) (cell a : ℕ) (e : ℕ × LocalFault) → Ok a ≡ squares_at forest dofs values cell (face_visits parts_alone forest (cell, 0)) →
-    Err e ≡ squares_at forest dofs values cell (face_visits parts_alone forest (cell, 1)) → Err e ≡ squares_at forest dofs values cell (parts_of forest cell)
+pub right_fails : (forest : RefinedMesh) (dofs : Numbering) (values : List ℤ) (cell a : ℕ) (e : ℕ × LocalFault) → Ok a ≡ squares_at forest dofs values cell (face_parts forest cell 0) →
+    Err e ≡ squares_at forest dofs values cell (face_parts forest cell 1) → Err e ≡ squares_at forest dofs values cell (parts_of forest cell)
 unfolding faces
 right_fails forest dofs values cell a e h i =
-    by_faces forest dofs values cell (Err e) (second_fails forest dofs values cell (face_visits parts_alone forest (cell, 0)) _ a e h (first_fails forest dofs values cell (face_visits parts_alone forest (cell, 1)) _ e i))
+    by_faces forest dofs values cell (Err e) (second_fails forest dofs values cell (face_parts forest cell 0) _ a e h (first_fails forest dofs values cell (face_parts forest cell 1) _ e i))
 
-pub bottom_fails : (forest : RefinedMesh) (dofs : Numbering) (values : List ℤ) (cell a b : ℕ) (e : ℕ × LocalFault) → Ok a ≡ squares_at forest dofs values cell (face_visits parts_alone forest (cell, 0)) →
-    Ok b ≡ squares_at forest dofs values cell (face_visits parts_alone forest (cell, 1)) → Err e ≡ squares_at forest dofs values cell (face_visits parts_alone forest (cell, 2)) →
+pub bottom_fails : (forest : RefinedMesh) (dofs : Numbering) (values : List ℤ) (cell a b : ℕ) (e : ℕ × LocalFault) → Ok a ≡ squares_at forest dofs values cell (face_parts forest cell 0) →
+    Ok b ≡ squares_at forest dofs values cell (face_parts forest cell 1) → Err e ≡ squares_at forest dofs values cell (face_parts forest cell 2) →
     Err e ≡ squares_at forest dofs values cell (parts_of forest cell)
 unfolding faces
 bottom_fails forest dofs values cell a b e h i j =
-    by_faces forest dofs values cell (Err e) (second_fails forest dofs values cell (face_visits parts_alone forest (cell, 0)) _ a e h
-    (second_fails forest dofs values cell (face_visits parts_alone forest (cell, 1)) _ b e i (first_fails forest dofs values cell (face_visits parts_alone forest (cell, 2)) _ e j)))
+    by_faces forest dofs values cell (Err e) (second_fails forest dofs values cell (face_parts forest cell 0) _ a e h
+    (second_fails forest dofs values cell (face_parts forest cell 1) _ b e i (first_fails forest dofs values cell (face_parts forest cell 2) _ e j)))
 
-pub top_fails : (forest : RefinedMesh) (dofs : Numbering) (values : List ℤ) (cell a b c : ℕ) (e : ℕ × LocalFault) → Ok a ≡ squares_at forest dofs values cell (face_visits parts_alone forest (cell, 0)) →
-    Ok b ≡ squares_at forest dofs values cell (face_visits parts_alone forest (cell, 1)) → Ok c ≡ squares_at forest dofs values cell (face_visits parts_alone forest (cell, 2)) →
-    Err e ≡ squares_at forest dofs values cell (face_visits parts_alone forest (cell, 3)) → Err e ≡ squares_at forest dofs values cell (parts_of forest cell)
+pub top_fails : (forest : RefinedMesh) (dofs : Numbering) (values : List ℤ) (cell a b c : ℕ) (e : ℕ × LocalFault) → Ok a ≡ squares_at forest dofs values cell (face_parts forest cell 0) →
+    Ok b ≡ squares_at forest dofs values cell (face_parts forest cell 1) → Ok c ≡ squares_at forest dofs values cell (face_parts forest cell 2) →
+    Err e ≡ squares_at forest dofs values cell (face_parts forest cell 3) → Err e ≡ squares_at forest dofs values cell (parts_of forest cell)
 unfolding faces
 top_fails forest dofs values cell a b c e h i j k =
-    by_faces forest dofs values cell (Err e) (second_fails forest dofs values cell (face_visits parts_alone forest (cell, 0)) _ a e h
-    (second_fails forest dofs values cell (face_visits parts_alone forest (cell, 1)) _ b e i
-    (second_fails forest dofs values cell (face_visits parts_alone forest (cell, 2)) (face_visits parts_alone forest (cell, 3)) c e j k)))
+    by_faces forest dofs values cell (Err e) (second_fails forest dofs values cell (face_parts forest cell 0) _ a e h
+    (second_fails forest dofs values cell (face_parts forest cell 1) _ b e i
+    (second_fails forest dofs values cell (face_parts forest cell 2) (face_parts forest cell 3) c e j k)))
 
-pub four_sums : (forest : RefinedMesh) (dofs : Numbering) (values : List ℤ) (cell a b c d : ℕ) → Ok a ≡ squares_at forest dofs values cell (face_visits parts_alone forest (cell, 0)) →
-    Ok b ≡ squares_at forest dofs values cell (face_visits parts_alone forest (cell, 1)) → Ok c ≡ squares_at forest dofs values cell (face_visits parts_alone forest (cell, 2)) →
-    Ok d ≡ squares_at forest dofs values cell (face_visits parts_alone forest (cell, 3)) → Ok (a + b + c + d) ≡ squares_at forest dofs values cell (parts_of forest cell)
+pub four_sums : (forest : RefinedMesh) (dofs : Numbering) (values : List ℤ) (cell a b c d : ℕ) → Ok a ≡ squares_at forest dofs values cell (face_parts forest cell 0) →
+    Ok b ≡ squares_at forest dofs values cell (face_parts forest cell 1) → Ok c ≡ squares_at forest dofs values cell (face_parts forest cell 2) →
+    Ok d ≡ squares_at forest dofs values cell (face_parts forest cell 3) → Ok (a + b + c + d) ≡ squares_at forest dofs values cell (parts_of forest cell)
 unfolding faces
 four_sums forest dofs values cell a b c d h i j k =
     let sums : a + b + c + d ≡ a + (b + (c + d)) = omega arith in
-    ap Ok sums ∙ by_faces forest dofs values cell (Ok (a + (b + (c + d)))) (both_sums forest dofs values cell (face_visits parts_alone forest (cell, 0)) _ a (b + (c + d)) h
-    (both_sums forest dofs values cell (face_visits parts_alone forest (cell, 1)) _ b (c + d) i
-    (both_sums forest dofs values cell (face_visits parts_alone forest (cell, 2)) (face_visits parts_alone forest (cell, 3)) c d j k)))
+    ap Ok sums ∙ by_faces forest dofs values cell (Ok (a + (b + (c + d)))) (both_sums forest dofs values cell (face_parts forest cell 0) _ a (b + (c + d)) h
+    (both_sums forest dofs values cell (face_parts forest cell 1) _ b (c + d) i
+    (both_sums forest dofs values cell (face_parts forest cell 2) (face_parts forest cell 3) c d j k)))

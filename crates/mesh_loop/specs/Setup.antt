@@ -5,11 +5,10 @@ use Rattle.std.specs.declared.option.Option.{Option}
 use Rattle.affine_constraints.specs.declared.term.Term.{Term}
 use Rattle.affine_constraints.specs.Lines.{AffineLine, Lines, lines_in}
 use Rattle.block_sums.specs.Masters.{masters, Holds}
-use Rattle.cell_blocks.specs.Blocks.{Given, visit_dofs}
+use Rattle.cell_blocks.specs.Blocks.{Given, visit_dofs, visits_in}
 use Rattle.dof_numbers.specs.Dofs.{IsNumberingOf}
 use Rattle.mesh_visits.specs.declared.flags.Flags.{Flags}
 use Rattle.mesh_visits.specs.declared.visit.Visit.{Visit}
-use Rattle.mesh_visits.specs.Visits.{visits_of}
 use Rattle.sparsity.specs.Coupled.{CoupledDofs, has, rows_of}
 
 -- a refined mesh with its dofs and the coefficients of a problem, the closed line, if any, of each dof, and
@@ -29,7 +28,7 @@ abbrev pub cells_of : MeshProblem → List ℕ
 cells_of s = range_with_len 0 (length s.given.forest.cells)
 
 abbrev pub cell_visits : MeshProblem → ℕ → List Visit
-cell_visits s cell = visits_of s.flags s.given.forest cell
+cell_visits s cell = visits_in s.flags s.given cell
 
 -- the dofs of all masters of these dofs
 unfoldable pub masters_of : Lines → List ℕ → List ℕ

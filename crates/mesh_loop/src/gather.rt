@@ -11,9 +11,10 @@ ghost use Rattle.mesh_loop.specs.Parts.{shown, IsVisitBelow, IsCellFit, AreParts
 use crate::limits::look_up;
 use crate::masters::push_masters;
 use crate::source::Source;
+use crate::visited::visits_by_cell;
 use compressed_lists::Lists;
 use fem_fixed::NoMemory;
-use mesh_visits::{Visit, make_visits};
+use mesh_visits::Visit;
 use sparsity::{Couplings, Pattern, PatternFault};
 use std::alloc::Global;
 use std::thread::Threads;
@@ -37,7 +38,7 @@ pub fn make_parts(
     ensures within { OnOk result (pairs_of (coupled_dofs (shown source.now)) ≤ 33554432) }
     ensures limit { IfErr result (λ fault. fault ≡ AboveLimit → 33554432 < pairs_of (coupled_dofs (shown source.now))) }
 {
-    let visits = make_visits(alloc, source.setting.forest, source.flags)?;
+    let visits = visits_by_cell(alloc, source)?;
     let gathered = gather(alloc, source, &visits)?;
     let pattern = Pattern::build(rt, alloc, &gathered.couplings)?;
     Ok(Parts {

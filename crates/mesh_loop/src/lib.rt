@@ -12,6 +12,7 @@ mod plan;
 mod serial;
 mod setup;
 mod source;
+mod visited;
 mod written;
 
 pub use cell_blocks::{CellCopy, CellScratch};

@@ -8,7 +8,7 @@ ghost use Rattle.matrix_free.specs.Values.{AreValues, IsSmallValue};
 use conflict_coloring::{Colors, color};
 use matrix_free::apply;
 use mesh_loop::{Plan, Setup, conflicts};
-use mesh_visits::Interior;
+use mesh_visits::{Flags, Interior};
 use problem_read::read_problem;
 use scratch_pool::OpenGate;
 use std::alloc::Global;
@@ -64,7 +64,16 @@ fn set_up_of<R: Threads + Sync + AllocGlobal>(rt: &R, mesh: &str, problem: &str)
         Ok(problem) => problem,
         Err(_) => return None,
     };
-    set_up(rt, rt.alloc(), parts, problem, Interior::None).ok()
+    let flags = Flags {
+        cells: true,
+        boundary: true,
+        interior: Interior::None,
+        cells_after_faces: false,
+        own: None,
+        ghost_parts: Interior::None,
+        ghost_cells: false,
+    };
+    set_up(rt, rt.alloc(), parts, problem, flags).ok()
 }
 
 /// The cells by colours.

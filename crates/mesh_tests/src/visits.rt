@@ -1,4 +1,4 @@
-//! Which cells and faces of a refined mesh are visited, and in which order.
+//! Which cells and faces of a refined mesh are visited in a run, and in which order.
 use crate::meshes::{Mesh, refined};
 use fixed_q1::Part;
 use mesh_visits::{Flags, Interior, Visit, make_visits};
@@ -38,18 +38,29 @@ fn visit_of(awaited: Awaited) -> Visit {
     }
 }
 
-/// Flags, and the visits of some cells of the strip whose second cell is divided.
+/// The flags of a run over the strip, the cells of it that are divided first, the subdomains of the active cells
+/// then, and the visits of some of them.
 #[derive(Clone, Copy)]
 struct Case {
-    interior: Interior,
-    cells_after_faces: bool,
+    flags: Flags,
+    divided: &'static [u32],
+    subdomains: &'static [u32],
     visits: &'static [(usize, &'static [Awaited])],
 }
 
 /// A hanging part is visited from the finer side.
 const ONCE: Case = Case {
-    interior: Interior::Once,
-    cells_after_faces: false,
+    flags: Flags {
+        cells: true,
+        boundary: true,
+        interior: Interior::Once,
+        cells_after_faces: false,
+        own: None,
+        ghost_parts: Interior::None,
+        ghost_cells: false,
+    },
+    divided: &[1],
+    subdomains: &[],
     visits: &[
         (0, &[Own, Edge(0, 3), Edge(2, 7), Edge(3, 0)]),
         (
@@ -78,8 +89,17 @@ const ONCE: Case = Case {
 
 /// Each side visits its halves in order.
 const BOTH: Case = Case {
-    interior: Interior::Both,
-    cells_after_faces: true,
+    flags: Flags {
+        cells: true,
+        boundary: true,
+        interior: Interior::Both,
+        cells_after_faces: true,
+        own: None,
+        ghost_parts: Interior::None,
+        ghost_cells: false,
+    },
+    divided: &[1],
+    subdomains: &[],
     visits: &[
         (
             0,
@@ -99,6 +119,82 @@ const BOTH: Case = Case {
     ],
 };
 
+/// The part between two subdomains is visited in the run of the lesser one.
+const LOWER: Case = Case {
+    flags: Flags {
+        cells: true,
+        boundary: true,
+        interior: Interior::Once,
+        cells_after_faces: false,
+        own: Some(0),
+        ghost_parts: Interior::Once,
+        ghost_cells: false,
+    },
+    divided: &[],
+    subdomains: &[0, 5],
+    visits: &[
+        (0, &[Own, Edge(0, 3), Face(1, 1, 0), Edge(2, 7), Edge(3, 0)]),
+        (1, &[]),
+    ],
+};
+
+/// In that of the greater one it isn't; there the other cell is a ghost.
+const HIGHER: Case = Case {
+    flags: Flags {
+        cells: true,
+        boundary: true,
+        interior: Interior::Once,
+        cells_after_faces: false,
+        own: Some(5),
+        ghost_parts: Interior::Once,
+        ghost_cells: true,
+    },
+    divided: &[],
+    subdomains: &[0, 5],
+    visits: &[(0, &[Own]), (1, &[Own, Edge(1, 0), Edge(2, 7), Edge(3, 0)])],
+};
+
+/// Under `Both` each run visits its side.
+const EACH: Case = Case {
+    flags: Flags {
+        cells: true,
+        boundary: true,
+        interior: Interior::Once,
+        cells_after_faces: false,
+        own: Some(5),
+        ghost_parts: Interior::Both,
+        ghost_cells: false,
+    },
+    divided: &[],
+    subdomains: &[0, 5],
+    visits: &[
+        (0, &[]),
+        (1, &[Own, Face(0, 0, 1), Edge(1, 0), Edge(2, 7), Edge(3, 0)]),
+    ],
+};
+
+/// Only cells that meet an own one are ghosts.
+const GHOSTS: Case = Case {
+    flags: Flags {
+        cells: true,
+        boundary: true,
+        interior: Interior::Once,
+        cells_after_faces: false,
+        own: Some(0),
+        ghost_parts: Interior::None,
+        ghost_cells: true,
+    },
+    divided: &[1],
+    subdomains: &[0, 5, 5, 5, 5],
+    visits: &[
+        (0, &[Own, Edge(0, 3), Edge(2, 7), Edge(3, 0)]),
+        (1, &[Own]),
+        (2, &[]),
+        (3, &[Own]),
+        (4, &[]),
+    ],
+};
+
 /// Whether these are the awaited visits.
 fn are_awaited(visits: &[Visit], awaited: &[Awaited]) -> bool {
     visits.len() == awaited.len()
@@ -110,25 +206,26 @@ fn are_awaited(visits: &[Visit], awaited: &[Awaited]) -> bool {
 
 /// Whether the cells of the strip have the visits of a case.
 fn are_visited(alloc: Global, case: &Case) -> Option<bool> {
-    let flags = Flags {
-        cells: true,
-        boundary: true,
-        interior: case.interior,
-        cells_after_faces: case.cells_after_faces,
-    };
-    let (forest, _) = refined(alloc, Mesh::Strip, &[1])?;
-    let visits = make_visits(alloc, &forest, flags).ok()?;
+    let (forest, _) = refined(alloc, Mesh::Strip, case.divided)?;
+    let visits = make_visits(alloc, &forest, case.flags, case.subdomains).ok()?;
     for (cell, awaited) in case.visits {
         if *cell >= visits.len() || !are_awaited(visits.get(*cell), awaited) {
             return None;
         }
     }
-    Some(visits.len() == 5)
+    Some(visits.len() == 2 + 3 * case.divided.len())
 }
 
 #[test]
 fn parts_of_faces_are_visited_once_or_from_both_sides(rt: HostRuntime) {
     for case in [ONCE, BOTH] {
+        assert!(rt; are_visited(rt.alloc(), &case) == Some(true));
+    }
+}
+
+#[test]
+fn a_run_visits_own_cells_their_parts_with_ghosts_and_ghosts(rt: HostRuntime) {
+    for case in [LOWER, HIGHER, EACH, GHOSTS] {
         assert!(rt; are_visited(rt.alloc(), &case) == Some(true));
     }
 }

@@ -1,6 +1,11 @@
 pub mod Picks
 pub mod Meets
 pub mod BySide
+pub mod Choosing
 pub mod Fits
 pub mod Counts
 pub mod Exact
+pub mod RunCounts
+pub mod Ghosts
+pub mod OverRuns
+pub mod RunSums

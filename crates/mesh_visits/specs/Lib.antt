@@ -1,6 +1,10 @@
 pub mod Meeting
 pub mod Visits
+pub mod Runs
 pub mod SideVisits
 pub mod Within
-pub mod Laws
+pub mod Sharing
 pub mod Tests
+pub mod Laws
+pub mod OverRuns
+pub mod Steps

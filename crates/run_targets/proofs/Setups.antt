@@ -5,7 +5,7 @@ use Rattle.std.specs.declared.result.Result.{Result}
 use Rattle.std.specs.List.{concat}
 use Rattle.fem_fixed.specs.Mesh.{Mesh}
 use Rattle.problem_read.specs.Entries.{ProblemParts}
-use Rattle.mesh_visits.specs.declared.flags.Interior.{Interior}
+use Rattle.mesh_visits.specs.declared.flags.Flags.{Flags}
 use Rattle.mesh_loop.specs.Setup.{MeshProblem, pattern_of}
 use Rattle.diagnostics.specs.declared.ending.Ending.{Ending}
 use Rattle.diagnostics.specs.Stages.{Then, stops, goes}
@@ -18,13 +18,13 @@ last_goes : {X Y : Type 0} (P : Y → Type 0) (first : Result X Refusal → Type
 last_goes P first next y h (stops refusal f e) = cc
 last_goes P first next y h (goes x f n) = h x n
 
-few_entries : (interior : Interior) (parts : Mesh) (problem : ProblemParts) (s : MeshProblem) → IsSetUp interior parts problem (Ok s) → length (concat (pattern_of s)) ≤ 33554432
+few_entries : (flags : Flags) (parts : Mesh) (problem : ProblemParts) (s : MeshProblem) → IsSetUp flags parts problem (Ok s) → length (concat (pattern_of s)) ≤ 33554432
 unfolding pattern_of
-few_entries interior parts problem s is =
+few_entries flags parts problem s is =
     let P : MeshProblem → Type 0 = λ t. length (concat (pattern_of t)) ≤ 33554432 in
     last_goes P _ _ s (λ mesh. last_goes P _ _ s (λ forest. last_goes P _ _ s (λ table made. made.1))) is
 
-pub few_result : (interior : Interior) (parts : Mesh) (problem : ProblemParts) (result : Result MeshProblem Ending) → IfOk result (λ s. IsSetUp interior parts problem (Ok s)) →
+pub few_result : (flags : Flags) (parts : Mesh) (problem : ProblemParts) (result : Result MeshProblem Ending) → IfOk result (λ s. IsSetUp flags parts problem (Ok s)) →
     IfOk result (λ s. length (concat (pattern_of s)) ≤ 33554432)
-few_result interior parts problem (Ok s) is = few_entries interior parts problem s is
-few_result interior parts problem (Err e) is = tt
+few_result flags parts problem (Ok s) is = few_entries flags parts problem s is
+few_result flags parts problem (Err e) is = tt

@@ -18,10 +18,10 @@ use Rattle.diagnostics.proofs.StageLaws.{ends_first, ends_next, goes_well}
 use Rattle.system_setup.specs.SetUp.{IsSetUp}
 use Rattle.system_texts.specs.Sums.{Summed}
 use Rattle.system_texts.specs.Texts.{AreTargets, TextsOf, SystemTexts}
-use Rattle.run_targets.specs.Defines.{interior_of, Assembled, Made}
+use Rattle.run_targets.specs.Defines.{flags_of, Assembled, Made}
 
 abbrev SetUpOf : Choice → (Mesh × ProblemParts) → Result MeshProblem Refusal → Type 0
-SetUpOf choice read = IsSetUp (interior_of choice.faces) read.0 read.1
+SetUpOf choice read = IsSetUp (flags_of choice) read.0 read.1
 
 module _ (mode : SystemMode) (choice : Choice) (read : Mesh × ProblemParts) where
   -- the set-up ends it

@@ -15,7 +15,7 @@ ghost use Rattle.run_targets.specs.Defines as meaning;
 use diagnostics::Ending;
 use fem_fixed::{MeshParts, NoMemory};
 use mesh_loop::Setup;
-use mesh_visits::Interior;
+use mesh_visits::{Flags, Interior};
 use problem_read::Problem;
 use run_outputs::Target;
 use run_words::{Faces, Options, SystemMode};
@@ -42,7 +42,7 @@ pub(crate) fn plain_system<'a, R: Threads + Sync, G: Gate + Sync>(
     ensures ok { IfOk result (λ targets. Assembled mode (seen options.now) read (Ok (map seen_target targets.items))) }
     ensures ends { IfErr result (EndsIn (Assembled mode (seen options.now) read)) }
 {
-    let setup = match prepare(rt, alloc, options.faces, read) {
+    let setup = match prepare(rt, alloc, options, read) {
         Ok(setup) => setup,
         Err(ending) => return Err(ending),
     };
@@ -68,7 +68,7 @@ pub(crate) fn any_system<'a, R: Threads + Wait + Sync, G: Gate + Sync>(
     ensures ok { IfOk result (λ targets. Assembled mode (seen options.now) read (Ok (map seen_target targets.items))) }
     ensures ends { IfErr result (EndsIn (Assembled mode (seen options.now) read)) }
 {
-    let setup = match prepare(rt, alloc, options.faces, read) {
+    let setup = match prepare(rt, alloc, options, read) {
         Ok(setup) => setup,
         Err(ending) => return Err(ending),
     };
@@ -83,17 +83,17 @@ pub(crate) fn any_system<'a, R: Threads + Wait + Sync, G: Gate + Sync>(
 fn prepare<R: Threads + Sync>(
     rt: &R,
     alloc: Global,
-    faces: Faces,
+    options: &Options,
     read: (MeshParts, Problem),
 ) -> Result<Setup, Ending>
     requires bounded { IsBounded read.0 }
     requires ids { length read.0.ids ≤ 2 ^ 20 }
-    ensures ok { IfOk result (λ setup. IsSetUp (meaning.interior_of faces) read.0 read.1 (Ok setup)) }
+    ensures ok { IfOk result (λ setup. IsSetUp (meaning.flags_of (seen options.now)) read.0 read.1 (Ok setup)) }
     ensures few { IfOk result (λ setup. length (concat (pattern_of setup)) ≤ 33554432) }
-    ensures ends { IfErr result (EndsIn (IsSetUp (meaning.interior_of faces) read.0 read.1)) }
+    ensures ends { IfErr result (EndsIn (IsSetUp (meaning.flags_of (seen options.now)) read.0 read.1)) }
 {
     let (parts, problem) = read;
-    set_up(rt, alloc, parts, problem, interior_for(faces))
+    set_up(rt, alloc, parts, problem, flags_of(options))
 }
 
 // The texts of sums.
@@ -115,8 +115,44 @@ fn finish<'a>(
     }
 }
 
-// The interior faces that are visited.
-fn interior_for(faces: Faces) -> Interior
+// The flags of the run.
+fn flags_of(options: &Options) -> Flags
+    ensures { result ≡ meaning.flags_of (seen options.now) }
+{
+    let interior = interior_of(options.faces);
+    match options.subdomain {
+        None => run_flags(interior, None, Interior::None, false),
+        Some(subdomain) => run_flags(
+            interior,
+            Some(subdomain.id),
+            interior_of(subdomain.ghost_parts),
+            subdomain.ghost_cells,
+        ),
+    }
+}
+
+// Own cells and their faces at the boundary are visited, and cells first.
+fn run_flags(
+    interior: Interior,
+    own: Option<u32>,
+    ghost_parts: Interior,
+    ghost_cells: bool,
+) -> Flags
+    ensures { result ≡ meaning.run_flags interior own ghost_parts ghost_cells }
+{
+    Flags {
+        cells: true,
+        boundary: true,
+        interior,
+        cells_after_faces: false,
+        own,
+        ghost_parts,
+        ghost_cells,
+    }
+}
+
+// From which sides parts of interior faces are visited.
+fn interior_of(faces: Faces) -> Interior
     ensures { result ≡ meaning.interior_of faces }
 {
     match faces {

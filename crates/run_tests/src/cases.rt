@@ -4,9 +4,9 @@ use crate::texts::{
     ANGLE, ANGLE_PROBLEM, DIVIDED_MATRIX, DRAWN, DRAWN_FOUR, DRAWN_FOUR_PROBLEM, DRAWN_MATRIX,
     DRAWN_PROBLEM, GRID, GRID_COLORS, GRID_MATRIX, GRID_PROBLEM, LARGE, LARGE_PROBLEM,
     LARGE_SYSTEM, LENIENT_PROBLEM, LENIENT_STRIP, LINED_STRIP, LINED_SYSTEM, LONG, MARKED_STRIP,
-    MSH_SQUARE, OTHER_IDS, PLAIN_PROBLEM, SKEW, SKEW_PROBLEM, SKEW_SYSTEM, SQUARE, SQUARE_ALONE,
-    SQUARE_MATRIX, SQUARE_PATTERN, SQUARE_ROBIN, SQUARE_SUMMARY, STRIP, STRIP_MATRIX, TIED_SYSTEM,
-    TINY, WRITTEN_ANGLE, WRITTEN_SQUARE,
+    MSH_SQUARE, OTHER_IDS, PARTED_PROBLEM, PARTED_STRIP, PLAIN_PROBLEM, SKEW, SKEW_PROBLEM,
+    SKEW_SYSTEM, SQUARE, SQUARE_ALONE, SQUARE_MATRIX, SQUARE_PATTERN, SQUARE_ROBIN, SQUARE_SUMMARY,
+    STRIP, STRIP_MATRIX, TIED_SYSTEM, TINY, WRITTEN_ANGLE, WRITTEN_SQUARE,
 };
 
 // The words of a run over the mesh alone, and over both texts.
@@ -116,7 +116,7 @@ pub(crate) const WRITTEN: [(&str, &str, &str, &str); 32] = [
 ];
 
 // Words, mesh, problem, and some of the lines on standard output.
-pub(crate) const SOME_LINES: [(&str, &str, &str, &[&str]); 7] = [
+pub(crate) const SOME_LINES: [(&str, &str, &str, &[&str]); 9] = [
     (
         "--generate 64 --seed 7 --summary",
         "",
@@ -151,6 +151,18 @@ pub(crate) const SOME_LINES: [(&str, &str, &str, &[&str]); 7] = [
         STRIP,
         "penalty 1\n",
         &["1 5 2147483648"],
+    ),
+    (
+        "--mesh mesh --problem problem --subdomain 0",
+        PARTED_STRIP,
+        PARTED_PROBLEM,
+        &["6 6 18", "1 1 2863340768", "5 5 0"],
+    ),
+    (
+        "--mesh=mesh --problem=problem --subdomain=5 --ghost=both",
+        PARTED_STRIP,
+        PARTED_PROBLEM,
+        &["1 1 1073741824", "1 5 1073741824"],
     ),
     (
         "--mesh mesh --format msh --summary",
@@ -208,7 +220,36 @@ pub(crate) const SAME: [(&[&str], &str, &str, &str); 3] = [
 ];
 
 // Words, mesh and problem of runs that give the same text.
-pub(crate) const ALIKE: [[(&str, &str, &str); 2]; 3] = [
+pub(crate) const ALIKE: [[(&str, &str, &str); 2]; 6] = [
+    // (two cells, of which the second is a ghost, and the part between them make up the whole system)
+    [
+        (
+            "--mesh mesh --problem problem --subdomain 0 --ghost once --ghost-cells --rhs -",
+            PARTED_STRIP,
+            PARTED_PROBLEM,
+        ),
+        (
+            "--mesh mesh --problem problem --faces once --rhs -",
+            STRIP,
+            "penalty 1\n",
+        ),
+    ],
+    [
+        (
+            "--ghost-cells --ghost none --subdomain 0 --mesh mesh --problem problem",
+            PARTED_STRIP,
+            PARTED_PROBLEM,
+        ),
+        (BOTH, PARTED_STRIP, PARTED_PROBLEM),
+    ],
+    [
+        (
+            "--mesh mesh --problem problem --mode mesh --subdomain 0000000005 --ghost-cells",
+            PARTED_STRIP,
+            PARTED_PROBLEM,
+        ),
+        ("--mesh mesh --mode mesh", PARTED_STRIP, ""),
+    ],
     [
         (
             "--mesh mesh --problem problem --faces once --rhs -",

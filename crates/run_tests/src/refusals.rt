@@ -437,7 +437,7 @@ pub(crate) const BAD_PROBLEMS: [(&str, &str); 22] = [
 ];
 
 // Words that ask for nothing.
-pub(crate) const NO_WORDS: [&str; 44] = [
+pub(crate) const NO_WORDS: [&str; 52] = [
     "",
     "--mesh a --workers 0",
     "--mesh a --queue 257",
@@ -482,4 +482,12 @@ pub(crate) const NO_WORDS: [&str; 44] = [
     "--mesh a --format ucd --format ucd",
     "--mesh a --mode mesh --rhs b",
     "--mesh a --mode mesh --summary",
+    "--mesh a --ghost once",
+    "--mesh a --ghost-cells",
+    "--mesh a --mode mesh --ghost none",
+    "--mesh a --subdomain 0 --ghost all",
+    "--mesh a --subdomain 4294967296",
+    "--mesh a --subdomain 00000000000",
+    "--mesh a --subdomain 1 --subdomain 1",
+    "--mesh a --subdomain 1 --ghost-cells --ghost-cells",
 ];

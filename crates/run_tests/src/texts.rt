@@ -7,6 +7,12 @@ pub(crate) const SQUARE: &str = "4 1 0 0 0\n1 0 0 0\n2 1 0 0\n3 1 1 0\n4 0 1 0\n
 pub(crate) const STRIP: &str =
     "6 2 0 0 0\n1 0 0 0\n2 1 0 0\n3 2 0 0\n4 0 1 0\n5 1 1 0\n6 2 1 0\n1 1 quad 1 2 5 4\n2 1 quad 2 3 6 5\n";
 
+// The same two squares, the second of another material, and a problem that puts them into two subdomains.
+pub(crate) const PARTED_STRIP: &str =
+    "6 2 0 0 0\n1 0 0 0\n2 1 0 0\n3 2 0 0\n4 0 1 0\n5 1 1 0\n6 2 1 0\n1 1 quad 1 2 5 4\n2 2 quad 2 3 6 5\n";
+
+pub(crate) const PARTED_PROBLEM: &str = "subdomain 2 5\npenalty 1\n";
+
 // The same two squares as a mesh tool may write them.
 pub(crate) const LENIENT_STRIP: &str =
     "# made by a writer\n# second comment\n6 4 1 0 0\n70 0.0 0.0 0.0\r\n9\t1e0  0 0\n\n11 2.00 0 -0\n12 0 10.0E-01 0\n\

@@ -6,8 +6,9 @@ use Rattle.std.specs.declared.option.Option.{Option}
 use Rattle.std.specs.List.{flat_map}
 use Rattle.std.specs.Option.{option_map, option_to_list}
 use Rattle.run_words.specs.declared.name.Name.{Name}
+use Rattle.run_words.specs.declared.switch.Switch.{Switch}
 use Rattle.run_words.specs.declared.options.Options as rust
-use Rattle.run_words.specs.Settings.{Setting, words_of, values_of, is_summary, StandsOnce, first_of, Given, given_by}
+use Rattle.run_words.specs.Settings.{Setting, words_of, values_of, is_alone, StandsOnce, first_of, Given, given_by}
 use Rattle.run_words.specs.Held.{HoldsValues, Holds, CannotHold, first_setting}
 use Rattle.run_words.specs.Choice.{Choice, seen, chosen}
 use Rattle.run_words.specs.Words.{AskFor, AskForNothing}
@@ -19,17 +20,17 @@ first_is : (value : Option (List ℕ)) (values : List (List ℕ)) → option_to_
 first_is None values is = ap first_of is
 first_is (Some value) values is = ap first_of is
 
-summary_is : (wanted : Bool) (count : ℕ) → cond wanted 1 0 ≡ count → wanted ≡ nat_lt 0 count
-summary_is true count is = ap (λ n. nat_lt 0 n) is
-summary_is false count is = ap (λ n. nat_lt 0 n) is
+stands_by : (wanted : Bool) (count : ℕ) → cond wanted 1 0 ≡ count → wanted ≡ nat_lt 0 count
+stands_by true count is = ap (λ n. nat_lt 0 n) is
+stands_by false count is = ap (λ n. nat_lt 0 n) is
 
-abbrev given_of : (Name → Option (List ℕ)) → Bool → Given
-given_of value wanted = record { value = value; summary = wanted }
+abbrev given_of : (Name → Option (List ℕ)) → (Switch → Bool) → Given
+given_of value stands = record { value = value; stands = stands }
 
 pub given_is : (settings : List Setting) (held : Given) → HoldsValues settings held → held ≡ given_by settings
 given_is settings held holds =
-    ap (λ value. given_of value held.summary) (fun_ext (λ name. first_is (held.value name) (values_of settings name) (holds.values_are name)))
-    ∙ ap (λ wanted. given_of (given_by settings).value wanted) (summary_is held.summary (count_by is_summary settings) holds.summary_is)
+    ap (λ value. given_of value held.stands) (fun_ext (λ name. first_is (held.value name) (values_of settings name) (holds.values_are name)))
+    ∙ ap (λ stands. given_of (given_by settings).value stands) (fun_ext (λ switch. stands_by (held.stands switch) (count_by (is_alone switch) settings) (holds.switches_are switch)))
 
 one_at_most : (value : Option (List ℕ)) → length (option_to_list value) ≤ 1
 one_at_most None = omega arith
@@ -42,7 +43,7 @@ once_at_most false = omega arith
 pub stands_once : (settings : List Setting) (held : Given) → HoldsValues settings held → StandsOnce settings
 stands_once settings held holds = record {
   valued = λ name. subst (λ values. length values ≤ 1) (holds.values_are name) (one_at_most (held.value name));
-  summary_once = subst (λ count. count ≤ 1) holds.summary_is (once_at_most held.summary);
+  switched = λ switch. subst (λ count. count ≤ 1) (holds.switches_are switch) (once_at_most (held.stands switch));
 }
 
 no_settings : (settings : List Setting) → flat_map words_of settings ≡ [] → settings ≡ []

@@ -10,12 +10,15 @@ use borrow.Author.Tests.{eqb-true}
 use Rattle.fem_fixed.proofs.Splits.{put_together}
 use Rattle.run_words.specs.declared.name.Name.{Name}
 use Rattle.run_words.specs.declared.name.Name.TheVariants as names
+use Rattle.run_words.specs.declared.switch.Switch.{Switch}
+use Rattle.run_words.specs.declared.switch.Switch.TheVariants as switches
 use Rattle.run_words.specs.Names.{spelled, all_names}
-use Rattle.run_words.specs.Settings.{joined, summary, words_of}
-use Rattle.run_words.specs.Openings.{Begins, whole, named, begins, find_name, joined_in, is_equals_sign}
+use Rattle.run_words.specs.Switches.{spelled_alone, all_switches}
+use Rattle.run_words.specs.Settings.{joined, alone, words_of}
+use Rattle.run_words.specs.Openings.{Begins, whole, named, begins, begins_by, find_name, find_switch, joined_in, is_equals_sign}
 
 pub begins_name : (name : Name) → begins (spelled name) ≡ Some (named name)
-unfolding begins spelled find_name
+unfolding begins spelled find_name find_switch spelled_alone
 begins_name names.Mode = refl
 begins_name names.Mesh = refl
 begins_name names.Problem = refl
@@ -30,9 +33,11 @@ begins_name names.Rhs = refl
 begins_name names.Generate = refl
 begins_name names.Seed = refl
 begins_name names.Format = refl
+begins_name names.Subdomain = refl
+begins_name names.Ghost = refl
 
 pub begins_joined : (name : Name) (value : List ℕ) → begins (spelled name ++ codes "=" ++ value) ≡ Some (whole (joined name value))
-unfolding begins spelled find_name
+unfolding begins spelled find_name find_switch spelled_alone
 begins_joined names.Mode value = refl
 begins_joined names.Mesh value = refl
 begins_joined names.Problem value = refl
@@ -47,10 +52,13 @@ begins_joined names.Rhs value = refl
 begins_joined names.Generate value = refl
 begins_joined names.Seed value = refl
 begins_joined names.Format value = refl
+begins_joined names.Subdomain value = refl
+begins_joined names.Ghost value = refl
 
-pub begins_summary : begins (codes "--summary") ≡ Some (whole summary)
-unfolding begins
-begins_summary = refl
+pub begins_alone : (switch : Switch) → begins (spelled_alone switch) ≡ Some (whole (alone switch))
+unfolding begins spelled_alone find_switch
+begins_alone switches.Summary = refl
+begins_alone switches.GhostCells = refl
 
 found_passes : {X : Type 0} (p : X → Bool) (xs : List X) (x : X) → find p xs ≡ Some x → p x ≡ true
 found_passes p [] x found = cc
@@ -89,14 +97,19 @@ named_is_begun word begun is =
     let found = map_some named (find_name word) begun is in
     subst (λ b. IsBegun b word) found.2 (find_name-spells word found.0 found.1)
 
-begun_by : (word : List ℕ) (begun : Begins) (alone signed : Bool) → bytes_eq word (codes "--summary") ≡ alone → list_any is_equals_sign word ≡ signed →
-    cond alone (Some (whole summary)) (cond signed (joined_in word) (option_map named (find_name word))) ≡ Some begun → IsBegun begun word
-begun_by word begun true signed is has found =
-    let e : whole summary ≡ begun = cc in
-    subst (λ b. IsBegun b word) e (ap (λ w. w ∷ []) ((bytes_eq-Decides word (codes "--summary")).0 is))
-begun_by word begun false true is has found = joined_is_begun word begun has found
-begun_by word begun false false is has found = named_is_begun word begun found
+find_switch-spells : (word : List ℕ) (switch : Switch) → find_switch word ≡ Some switch → word ≡ spelled_alone switch
+unfolding find_switch
+find_switch-spells word switch found =
+    sym ((bytes_eq-Decides (spelled_alone switch) word).0 (found_passes (λ s. bytes_eq (spelled_alone s) word) all_switches switch found))
+
+begun_by : (word : List ℕ) (begun : Begins) (found : Option Switch) (signed : Bool) → find_switch word ≡ found → list_any is_equals_sign word ≡ signed →
+    begins_by found word ≡ Some begun → IsBegun begun word
+begun_by word begun (Some switch) signed is has found =
+    let e : whole (alone switch) ≡ begun = cc in
+    subst (λ b. IsBegun b word) e (ap (λ w. w ∷ []) (find_switch-spells word switch is))
+begun_by word begun None true is has found = joined_is_begun word begun has (sym (ap (λ b. cond b (joined_in word) (option_map named (find_name word))) has) ∙ found)
+begun_by word begun None false is has found = named_is_begun word begun (sym (ap (λ b. cond b (joined_in word) (option_map named (find_name word))) has) ∙ found)
 
 pub begins_tells : (word : List ℕ) (begun : Begins) → begins word ≡ Some begun → IsBegun begun word
 unfolding begins
-begins_tells word begun found = begun_by word begun (bytes_eq word (codes "--summary")) (list_any is_equals_sign word) refl refl found
+begins_tells word begun found = begun_by word begun (find_switch word) (list_any is_equals_sign word) refl refl found

@@ -10,10 +10,11 @@ use Rattle.std.proofs.lemmas.Grind.{flat_map-append}
 use Rattle.std.proofs.lemmas.List.Sums.{sum_by-append, sum_by-cons}
 use Rattle.std.proofs.Common.{zero}
 use Rattle.run_words.specs.Names.{place_of}
-use Rattle.run_words.specs.Settings.{Setting, Given, apart, joined, summary, words_of, gives_to, is_summary, values_of, StandsOnce}
+use Rattle.run_words.specs.Switches.{switch_place}
+use Rattle.run_words.specs.Settings.{Setting, Given, apart, joined, alone, words_of, gives_to, is_alone, values_of, StandsOnce}
 use Rattle.run_words.specs.Openings.{Begins, whole, named, begins}
-use Rattle.run_words.specs.Held.{Takes, CannotTake, no_setting, stands, valued, alone, Repeats, HoldsValues, Holds, HoldsSoFar, CannotHold, first_with, first_setting}
-use Rattle.run_words.proofs.Begun.{begins_name, begins_joined, begins_summary, begins_tells, IsBegun}
+use Rattle.run_words.specs.Held.{Takes, CannotTake, no_setting, stands, valued, switched, Repeats, HoldsValues, Holds, HoldsSoFar, CannotHold, first_with, first_setting}
+use Rattle.run_words.proofs.Begun.{begins_name, begins_joined, begins_alone, begins_tells, IsBegun}
 use Rattle.run_words.proofs.Places.{held_in}
 
 -- no element passes, where the first that does would stand at the end
@@ -27,7 +28,7 @@ none_passes p (x ∷ xs) at_end =
 pub first_setting-words_of : (setting : Setting) (left : List (List ℕ)) → first_setting (words_of setting ++ left) ≡ Some (setting, left)
 first_setting-words_of (apart name value) left = ap (option_and_then (λ begun. first_with begun (value ∷ left))) (begins_name name)
 first_setting-words_of (joined name value) left = ap (option_and_then (λ begun. first_with begun left)) (begins_joined name value)
-first_setting-words_of summary left = ap (option_and_then (λ begun. first_with begun left)) begins_summary
+first_setting-words_of (alone switch) left = ap (option_and_then (λ begun. first_with begun left)) (begins_alone switch)
 
 pub then_some : {X Y : Type 0} (f : X → Option Y) (o : Option X) (y : Y) → option_and_then f o ≡ Some y → (x : X) × (o ≡ Some x) × (f x ≡ Some y)
 then_some f None y is = cc
@@ -88,11 +89,16 @@ none_at zero place = refl
 none_at (suc count) zero = refl
 none_at (suc count) (suc place) = none_at count place
 
-pub holds_none : (words : List (List ℕ)) → HoldsSoFar words (held_in (replicate 14 nothing) false) words
+off_at : (count place : ℕ) → get_or (replicate count false) place false ≡ false
+off_at zero place = refl
+off_at (suc count) zero = refl
+off_at (suc count) (suc place) = off_at count place
+
+pub holds_none : (words : List (List ℕ)) → HoldsSoFar words (held_in (replicate 16 nothing) (replicate 2 false)) words
 holds_none words = record {
   settings = [];
   words_are = refl;
-  values_are = record { values_are = λ name. ap (λ o. option_to_list (option_copied o)) (none_at 14 (place_of name)); summary_is = refl };
+  values_are = record { values_are = λ name. ap (λ o. option_to_list (option_copied o)) (none_at 16 (place_of name)); switches_are = λ switch. ap (λ b. cond {A = ℕ} b 1 0) (off_at 2 (switch_place switch)) };
 }
 
 single_value : (o : Option (List ℕ)) → option_to_list o ≡ cons_option o []
@@ -109,10 +115,10 @@ holds_more words held new left rest so_far takes = record {
     values_are = λ name. takes.adds.values_are name ∙ ap (λ list. list ++ option_to_list (gives_to name takes.setting)) (so_far.values_are.values_are name)
         ∙ ap (λ list. values_of so_far.settings name ++ list) (single_value (gives_to name takes.setting))
         ∙ sym (filter_map-append (gives_to name) so_far.settings (takes.setting ∷ []));
-    summary_is =
-        let all = sum_by-append (λ s. cond (is_summary s) 1 0) so_far.settings (takes.setting ∷ []) in
-        let one = takes.adds.summary_is in
-        let were = so_far.values_are.summary_is in
+    switches_are = λ switch.
+        let all = sum_by-append (λ s. cond (is_alone switch s) 1 0) so_far.settings (takes.setting ∷ []) in
+        let one = takes.adds.switches_are switch in
+        let were = so_far.values_are.switches_are switch in
         omega arith;
   };
 }
@@ -141,14 +147,14 @@ repeats_twice settings more setting held holds once (valued name stood given) =
     let second = giving (gives_to name setting) (values_of more name) given in
     let few = once.valued name in
     omega arith
-repeats_twice settings more setting held holds once (alone stood is) =
-    let one : Setting → ℕ = λ s. cond (is_summary s) 1 0 in
+repeats_twice settings more setting held holds once (switched switch stood is) =
+    let one : Setting → ℕ = λ s. cond (is_alone switch s) 1 0 in
     let all = sum_by-append one settings (setting ∷ more) in
     let later = sum_by-cons one setting more in
     let here = ap (λ (b : Bool). cond {A = ℕ} b 1 0) is in
     let earlier = ap (λ (b : Bool). cond {A = ℕ} b 1 0) stood in
-    let held_is = holds.summary_is in
-    let few = once.summary_once in
+    let held_is = holds.switches_are switch in
+    let few = once.switched switch in
     omega arith
 
 fails_at : (settings more : List Setting) (held : Given) (word : List ℕ) (behind : List (List ℕ)) → HoldsValues settings held → word ∷ behind ≡ flat_map words_of more →

@@ -5,7 +5,7 @@ use Rattle.run_words.specs.declared.name.Name.TheVariants as names
 use Rattle.run_words.specs.declared.options.Mode.{Mode}
 use Rattle.run_words.specs.declared.options.Mode.TheVariants as modes
 use Rattle.run_words.specs.declared.options.SystemMode.TheVariants as systems
-use Rattle.run_words.specs.Settings.{Setting, apart, joined, summary, words_of, values_of, first_of}
+use Rattle.run_words.specs.Settings.{Setting, apart, joined, alone, words_of, values_of, first_of}
 use Rattle.run_words.specs.Names.{spelled, same_name}
 use Rattle.run_words.specs.Values.{system_mode_of, mode_of}
 use Rattle.run_words.specs.Choice.{Choice, named_or}
@@ -103,7 +103,7 @@ value_is value other is = cc
 
 pub mode_stands : (settings : List Setting) (value : List ℕ) → first_of (values_of settings names.Mode) ≡ Some value → ModeStands value (flat_map words_of settings)
 mode_stands [] value is = cc
-mode_stands (summary ∷ settings) value is = mode_behind value (words_of summary) (flat_map words_of settings) (mode_stands settings value is)
+mode_stands (alone switch ∷ settings) value is = mode_behind value (words_of (alone switch)) (flat_map words_of settings) (mode_stands settings value is)
 mode_stands (apart name own ∷ settings) value is =
     (elim (same_name names.Mode name) as (λ b. same_name names.Mode name ≡ b → first_of (cons_option (cond b (Some own) None) (values_of settings names.Mode)) ≡ Some value →
     ModeStands value (flat_map words_of (apart name own ∷ settings))) [

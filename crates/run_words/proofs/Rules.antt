@@ -1,6 +1,6 @@
 -- What is read is what the words ask for.
 use Rattle.std.proofs.Common.{◌≡◌, ◌∙◌, ◌*◌, ap, sym, subst, ℕ, List, Bool, true, false, cond, refl, not}
-use Rattle.std.specs.Prelude.{Some, None, is_some, unwrap_or, ◌&&◌, codes}
+use Rattle.std.specs.Prelude.{Some, None, is_some, unwrap_or, ◌&&◌, ◌||◌, codes}
 use Rattle.std.specs.Str.{bytes_eq}
 use Rattle.std.proofs.lemmas.Slice.Eq.{bytes_eq-Decides}
 use Rattle.run_words.specs.declared.options.Mode.{Mode}
@@ -13,14 +13,16 @@ use Rattle.run_words.specs.declared.options.Faces.TheVariants as faces
 use Rattle.std.specs.declared.option.Option.{Option}
 use Rattle.std.specs.Option.{option_map, option_and_then}
 use Rattle.std.proofs.lemmas.Option.{cond_some}
-use Rattle.fem_fixed.specs.Numbers.{digits_value}
+use Rattle.fem_fixed.specs.Numbers.{digits_value, is_id}
 use Rattle.run_words.specs.declared.name.Name.TheVariants as names
 use Rattle.run_words.specs.declared.options.Plan.{Plan}
+use Rattle.run_words.specs.declared.options.Subdomain.{Subdomain}
+use Rattle.run_words.specs.declared.switch.Switch.TheVariants as switches
 use Rattle.run_words.specs.Settings.{Given}
 use Rattle.run_words.specs.Values.{is_name, is_number_within, mode_of, format_of, faces_of, is_in_set}
-use Rattle.run_words.specs.Choice.{Source, texts, generated, Destination, standard, named, Output, summary, both, destination_of, Choice, number_or, named_or, plan_of, source_of, output_of, mode_in, format_in, chosen}
-use Rattle.run_words.specs.Words.{passes, AreInSets, is_standard, are_same, has_sums, is_msh, SourceRules, OutputRules, KeepsRules}
-use Rattle.run_words.specs.Reading.{number_within, name_of, read_or, read_plan, two_texts, read_source, read_destination, is_same_name, two_outputs, read_output, reading, ◌>>=◌}
+use Rattle.run_words.specs.Choice.{Source, texts, generated, Destination, standard, named, Output, summary, both, destination_of, Choice, number_or, named_or, plan_of, source_of, output_of, subdomain_of, mode_in, format_in, chosen}
+use Rattle.run_words.specs.Words.{passes, AreInSets, is_standard, are_same, has_sums, is_msh, SourceRules, OutputRules, SubdomainRule, KeepsRules}
+use Rattle.run_words.specs.Reading.{number_within, name_of, read_or, read_plan, two_texts, read_source, read_subdomain, read_destination, is_same_name, two_outputs, read_output, reading, ◌>>=◌}
 use Rattle.run_words.proofs.Cuts.{then_some}
 
 injected : {X : Type 0} (x y : X) → Some x ≡ Some y → x ≡ y
@@ -263,6 +265,44 @@ output_given matrix (Some rhs) false true in_sets rules =
     ∙ ap (λ same. cond same None (Some (both (destination_or_standard matrix) (Some (destination_of rhs))))) (same_outputs matrix rhs ∙ rules.two_names)
 output_given _ _ _ _ in_sets rules = cc
 
+-- the run of one subdomain
+
+pub record SubdomainInSets (subdomain parts : Option (List ℕ)) : Type 0 where
+  pub subdomain_in : passes is_id subdomain ≡ true
+  pub parts_in : passes (λ word. is_some (faces_of word)) parts ≡ true
+
+pub record SubdomainRead (subdomain parts : Option (List ℕ)) (cells : Bool) (run : Option Subdomain) : Type 0 where
+  pub in_sets : SubdomainInSets subdomain parts
+  pub rule : SubdomainRule subdomain parts cells
+  pub run_is : run ≡ subdomain_of subdomain parts cells
+
+abbrev run_of : Bool → ℕ → Faces → Option Subdomain
+run_of cells id sides = Some (record { id = id; ghost_parts = sides; ghost_cells = cells })
+
+pub subdomain_read : (subdomain parts : Option (List ℕ)) (cells : Bool) (run : Option Subdomain) → read_subdomain subdomain parts cells ≡ Some run → SubdomainRead subdomain parts cells run
+unfolding read_subdomain
+subdomain_read None None false run read =
+    record { in_sets = record { subdomain_in = refl; parts_in = refl }; rule = refl; run_is = sym (injected None run read) }
+subdomain_read (Some word) parts cells run read =
+    let found = cond_then (is_id word) (digits_value word) (λ id. read_or faces.None faces_of parts >>= (λ sides. Some (run_of cells id sides))) run read in
+    let more = then_some (λ sides. Some (run_of cells (digits_value word) sides)) (read_or faces.None faces_of parts) run found.1 in
+    let sides = named_read faces_of faces.None more.0 parts more.1 in
+    record {
+      in_sets = record { subdomain_in = found.0; parts_in = sides.0 };
+      rule = and_false (is_some parts || cells);
+      run_is = sym (injected (run_of cells (digits_value word) more.0) run more.2) ∙ ap (λ f. run_of cells (digits_value word) f) sides.1;
+    }
+subdomain_read _ _ _ run read = cc
+
+pub subdomain_given : (subdomain parts : Option (List ℕ)) (cells : Bool) → SubdomainInSets subdomain parts → SubdomainRule subdomain parts cells →
+    read_subdomain subdomain parts cells ≡ Some (subdomain_of subdomain parts cells)
+unfolding read_subdomain
+subdomain_given None None false in_sets rule = refl
+subdomain_given (Some word) parts cells in_sets rule =
+    ap (λ b. cond b (Some (digits_value word)) None >>= (λ id. read_or faces.None faces_of parts >>= (λ sides. Some (run_of cells id sides)))) in_sets.subdomain_in
+    ∙ ap (λ o. o >>= (λ sides. Some (run_of cells (digits_value word) sides))) (named_given faces_of faces.None parts in_sets.parts_in)
+subdomain_given _ _ _ in_sets rule = cc
+
 -- the whole
 
 pub record IsChosen (given : Given) (choice : Choice) : Type 0 where
@@ -280,12 +320,14 @@ reading_given given in_sets rules =
     let plan = plan_given given (record { workers = in_sets names.Workers; queue = in_sets names.Queue; chunk = in_sets names.Chunk; scratch = in_sets names.Scratch }) in
     let digits = number_given 0 64 0 (given.value names.Digits) (in_sets names.Digits) in
     let faces = named_given faces_of faces.None (given.value names.Faces) (in_sets names.Faces) in
-    let output = output_given (given.value names.Matrix) (given.value names.Rhs) given.summary (has_sums (mode_in given))
+    let subdomain = subdomain_given (given.value names.Subdomain) (given.value names.Ghost) (given.stands switches.GhostCells)
+    (record { subdomain_in = in_sets names.Subdomain; parts_in = in_sets names.Ghost }) rules.subdomain in
+    let output = output_given (given.value names.Matrix) (given.value names.Rhs) (given.stands switches.Summary) (has_sums (mode_in given))
     (record { matrix_in = in_sets names.Matrix; rhs_in = in_sets names.Rhs }) rules.output in
-    rw (mode, format, source, plan, digits, faces, output) refl
+    rw (mode, format, source, plan, digits, faces, subdomain, output) refl
 
-abbrev put_together : Mode → Source → Plan → ℕ → Faces → Output → Choice
-put_together mode source plan digits faces output = record { mode = mode; source = source; plan = plan; digits = digits; faces = faces; output = output }
+abbrev put_together : Mode → Source → Plan → ℕ → Faces → Option Subdomain → Output → Choice
+put_together mode source plan digits faces subdomain output = record { mode = mode; source = source; plan = plan; digits = digits; faces = faces; subdomain = subdomain; output = output }
 
 pub record PartsInSets (given : Given) : Type 0 where
   pub mode_in : passes (λ word. is_some (mode_of word)) (given.value names.Mode) ≡ true
@@ -294,6 +336,7 @@ pub record PartsInSets (given : Given) : Type 0 where
   pub plan_in : PlanInSets given
   pub digits_in : passes (is_number_within 0 64) (given.value names.Digits) ≡ true
   pub faces_in : passes (λ word. is_some (faces_of word)) (given.value names.Faces) ≡ true
+  pub subdomain_in : SubdomainInSets (given.value names.Subdomain) (given.value names.Ghost)
   pub output_in : OutputInSets (given.value names.Matrix) (given.value names.Rhs)
 
 in_all_sets : (given : Given) → PartsInSets given → AreInSets given
@@ -312,17 +355,20 @@ in_all_sets given parts names.Rhs = parts.output_in.rhs_in
 in_all_sets given parts names.Generate = parts.source_in.generate_in
 in_all_sets given parts names.Seed = parts.source_in.seed_in
 in_all_sets given parts names.Format = parts.format_in
+in_all_sets given parts names.Subdomain = parts.subdomain_in.subdomain_in
+in_all_sets given parts names.Ghost = parts.subdomain_in.parts_in
 
-chosen_from : (given : Given) (choice : Choice) (m : Mode) (t : Format) (s : Source) (p : Plan) (d : ℕ) (f : Faces) (o : Output) →
+chosen_from : (given : Given) (choice : Choice) (m : Mode) (t : Format) (s : Source) (p : Plan) (d : ℕ) (f : Faces) (u : Option Subdomain) (o : Output) →
     read_or (modes.System systems.Serial) mode_of (given.value names.Mode) ≡ Some m →
     read_or formats.Ucd format_of (given.value names.Format) ≡ Some t →
     read_source (given.value names.Mesh) (given.value names.Problem) (given.value names.Generate) (given.value names.Seed) t ≡ Some s →
     read_plan given ≡ Some p →
     read_or 0 (number_within 0 64) (given.value names.Digits) ≡ Some d →
     read_or faces.None faces_of (given.value names.Faces) ≡ Some f →
-    read_output (given.value names.Matrix) (given.value names.Rhs) given.summary (has_sums m) ≡ Some o →
-    put_together m s p d f o ≡ choice → IsChosen given choice
-chosen_from given choice m t s p d f o m_read t_read s_read p_read d_read f_read o_read is =
+    read_subdomain (given.value names.Subdomain) (given.value names.Ghost) (given.stands switches.GhostCells) ≡ Some u →
+    read_output (given.value names.Matrix) (given.value names.Rhs) (given.stands switches.Summary) (has_sums m) ≡ Some o →
+    put_together m s p d f u o ≡ choice → IsChosen given choice
+chosen_from given choice m t s p d f u o m_read t_read s_read p_read d_read f_read u_read o_read is =
     let mode = named_read mode_of (modes.System systems.Serial) m (given.value names.Mode) m_read in
     let format = named_read format_of formats.Ucd t (given.value names.Format) t_read in
     let read_in : Format → Type 0 = λ f. SourceRead (given.value names.Mesh) (given.value names.Problem) (given.value names.Generate) (given.value names.Seed) f s in
@@ -330,25 +376,30 @@ chosen_from given choice m t s p d f o m_read t_read s_read p_read d_read f_read
     let plan = plan_read given p p_read in
     let digits = number_read 0 64 0 d (given.value names.Digits) d_read in
     let sides = named_read faces_of faces.None f (given.value names.Faces) f_read in
-    let output = output_read (given.value names.Matrix) (given.value names.Rhs) given.summary (has_sums m) o o_read in
+    let run = subdomain_read (given.value names.Subdomain) (given.value names.Ghost) (given.stands switches.GhostCells) u u_read in
+    let output = output_read (given.value names.Matrix) (given.value names.Rhs) (given.stands switches.Summary) (has_sums m) o o_read in
     record {
-      in_sets = in_all_sets given (record { mode_in = mode.0; format_in = format.0; source_in = source.in_sets; plan_in = plan.0; digits_in = digits.0; faces_in = sides.0; output_in = output.in_sets });
+      in_sets = in_all_sets given (record { mode_in = mode.0; format_in = format.0; source_in = source.in_sets; plan_in = plan.0; digits_in = digits.0; faces_in = sides.0; subdomain_in = run.in_sets; output_in = output.in_sets });
       rules = record {
         source = source.rules;
-        output = subst (λ m. OutputRules (given.value names.Matrix) (given.value names.Rhs) given.summary (has_sums m)) mode.1 output.rules;
+        output = subst (λ m. OutputRules (given.value names.Matrix) (given.value names.Rhs) (given.stands switches.Summary) (has_sums m)) mode.1 output.rules;
+        subdomain = run.rule;
       };
-      choice_is = sym is ∙ ap (λ m. put_together m s p d f o) mode.1 ∙ ap (λ s. put_together (mode_in given) s p d f o) source.source_is
-          ∙ ap (λ p. put_together (mode_in given) (chosen given).source p d f o) plan.1
-          ∙ ap (λ d. put_together (mode_in given) (chosen given).source (plan_of given) d f o) digits.1
-          ∙ ap (λ f. put_together (mode_in given) (chosen given).source (plan_of given) (chosen given).digits f o) sides.1
-          ∙ ap (λ o. put_together (mode_in given) (chosen given).source (plan_of given) (chosen given).digits (chosen given).faces o) output.output_is;
+      choice_is = sym is ∙ ap (λ m. put_together m s p d f u o) mode.1 ∙ ap (λ s. put_together (mode_in given) s p d f u o) source.source_is
+          ∙ ap (λ p. put_together (mode_in given) (chosen given).source p d f u o) plan.1
+          ∙ ap (λ d. put_together (mode_in given) (chosen given).source (plan_of given) d f u o) digits.1
+          ∙ ap (λ f. put_together (mode_in given) (chosen given).source (plan_of given) (chosen given).digits f u o) sides.1
+          ∙ ap (λ u. put_together (mode_in given) (chosen given).source (plan_of given) (chosen given).digits (chosen given).faces u o) run.run_is
+          ∙ ap (λ o. put_together (mode_in given) (chosen given).source (plan_of given) (chosen given).digits (chosen given).faces (chosen given).subdomain o) output.output_is;
     }
 
 pub reading_tells : (given : Given) (choice : Choice) → reading given ≡ Some choice → IsChosen given choice
 unfolding reading
 reading_tells given choice read =
+    let behind_subdomain : Mode → Source → Plan → ℕ → Faces → Option Subdomain → Option Choice = λ m s p d f u.
+    read_output (given.value names.Matrix) (given.value names.Rhs) (given.stands switches.Summary) (has_sums m) >>= (λ o. Some (put_together m s p d f u o)) in
     let behind_faces : Mode → Source → Plan → ℕ → Faces → Option Choice = λ m s p d f.
-    read_output (given.value names.Matrix) (given.value names.Rhs) given.summary (has_sums m) >>= (λ o. Some (put_together m s p d f o)) in
+    read_subdomain (given.value names.Subdomain) (given.value names.Ghost) (given.stands switches.GhostCells) >>= (λ u. behind_subdomain m s p d f u) in
     let behind_digits : Mode → Source → Plan → ℕ → Option Choice = λ m s p d. read_or faces.None faces_of (given.value names.Faces) >>= (λ f. behind_faces m s p d f) in
     let behind_plan : Mode → Source → Plan → Option Choice = λ m s p. read_or 0 (number_within 0 64) (given.value names.Digits) >>= (λ d. behind_digits m s p d) in
     let behind_source : Mode → Source → Option Choice = λ m s. read_plan given >>= (λ p. behind_plan m s p) in
@@ -361,5 +412,6 @@ reading_tells given choice read =
     let p = then_some (behind_plan m.0 s.0) (read_plan given) choice s.2 in
     let d = then_some (behind_digits m.0 s.0 p.0) (read_or 0 (number_within 0 64) (given.value names.Digits)) choice p.2 in
     let f = then_some (behind_faces m.0 s.0 p.0 d.0) (read_or faces.None faces_of (given.value names.Faces)) choice d.2 in
-    let o = then_some (λ o. Some (put_together m.0 s.0 p.0 d.0 f.0 o)) (read_output (given.value names.Matrix) (given.value names.Rhs) given.summary (has_sums m.0)) choice f.2 in
-    chosen_from given choice m.0 t.0 s.0 p.0 d.0 f.0 o.0 m.1 t.1 s.1 p.1 d.1 f.1 o.1 (injected (put_together m.0 s.0 p.0 d.0 f.0 o.0) choice o.2)
+    let u = then_some (behind_subdomain m.0 s.0 p.0 d.0 f.0) (read_subdomain (given.value names.Subdomain) (given.value names.Ghost) (given.stands switches.GhostCells)) choice f.2 in
+    let o = then_some (λ o. Some (put_together m.0 s.0 p.0 d.0 f.0 u.0 o)) (read_output (given.value names.Matrix) (given.value names.Rhs) (given.stands switches.Summary) (has_sums m.0)) choice u.2 in
+    chosen_from given choice m.0 t.0 s.0 p.0 d.0 f.0 u.0 o.0 m.1 t.1 s.1 p.1 d.1 f.1 u.1 o.1 (injected (put_together m.0 s.0 p.0 d.0 f.0 u.0 o.0) choice o.2)

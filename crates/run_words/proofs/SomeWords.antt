@@ -5,14 +5,16 @@ use Rattle.std.specs.declared.option.Option.{Option}
 use Rattle.std.proofs.lemmas.Bool.{cases_Bool}
 use Rattle.std.proofs.lemmas.List.{length-append}
 use Rattle.run_words.specs.declared.name.Name.{Name}
+use Rattle.run_words.specs.declared.switch.Switch.{Switch}
 use Rattle.run_words.specs.Names.{same_name}
-use Rattle.run_words.specs.Settings.{Setting, Given, apart, joined, summary, words_of}
-use Rattle.run_words.specs.Held.{Sets, Adds, Repeats, valued, alone, no_setting, stands, first_setting, HoldsSoFar, Holds, CannotHold}
+use Rattle.run_words.specs.Switches.{same_switch}
+use Rattle.run_words.specs.Settings.{Setting, Given, apart, joined, alone, words_of}
+use Rattle.run_words.specs.Held.{Sets, Turns, Adds, Repeats, valued, switched, no_setting, stands, first_setting, HoldsSoFar, Holds, CannotHold}
 use Rattle.run_words.specs.Choice.{Choice}
 use Rattle.run_words.specs.Words.{AskFor, AskForNothing, AskForSomethingOrNothing}
 use Rattle.run_words.specs.Reading.{reading}
-use Rattle.run_words.proofs.Places.{same_name-refl}
-use Rattle.run_words.proofs.Taking.{adds_apart, adds_joined, adds_summary, gives_itself}
+use Rattle.run_words.proofs.Places.{same_name-refl, same_switch-refl}
+use Rattle.run_words.proofs.Taking.{adds_apart, adds_joined, adds_alone, gives_itself}
 use Rattle.run_words.proofs.Cuts.{words_of_first, holds_more, holds_all, holds_fails}
 use Rattle.run_words.proofs.Asked.{ask_for_read, read_as_asked, cannot_ask}
 
@@ -22,13 +24,16 @@ cases_Option (Some x) = inr (x, refl)
 
 -- what is held and one value more
 abbrev with_value : Given → Name → List ℕ → Given
-with_value held name value = record { value = λ other. if same_name other name then Some value else held.value other; summary = held.summary }
+with_value held name value = record { value = λ other. if same_name other name then Some value else held.value other; stands = held.stands }
 
-abbrev with_summary : Given → Given
-with_summary held = record { value = held.value; summary = true }
+abbrev with_switch : Given → Switch → Given
+with_switch held switch = record { value = held.value; stands = λ other. if same_switch other switch then true else held.stands other }
 
 sets : (held : Given) (name : Name) (value : List ℕ) → held.value name ≡ None → Sets held name value (with_value held name value)
-sets held name value free = record { free = free; values_are = λ other. refl; summary_stays = refl }
+sets held name value free = record { free = free; values_are = λ other. refl; switches_stay = λ switch. refl }
+
+turns : (held : Given) (switch : Switch) → held.stands switch ≡ false → Turns held switch (with_switch held switch)
+turns held switch free = record { free = free; values_stay = λ name. refl; switches_are = λ other. refl }
 
 stood : (o : Option (List ℕ)) (value : List ℕ) → o ≡ Some value → IsSome o
 stood None value is = cc
@@ -50,15 +55,15 @@ added_or_not held (joined name value) = elim (cases_Option (held.value name)) [
   | inl free ↦ inl (with_value held name value, adds_joined held (with_value held name value) name value (sets held name value free))
   | inr there ↦ inr (repeats_joined held name value (stood (held.value name) there.0 there.1))
 ]
-added_or_not held summary = elim (cases_Bool held.summary) [
-  | inl there ↦ inr (alone there refl)
-  | inr free ↦ inl (with_summary held, adds_summary held (with_summary held) free refl)
+added_or_not held (alone switch) = elim (cases_Bool (held.stands switch)) [
+  | inl there ↦ inr (switched switch there (same_switch-refl switch))
+  | inr free ↦ inl (with_switch held switch, adds_alone held (with_switch held switch) switch (turns held switch free))
 ]
 
 some_words : (setting : Setting) → 1 ≤ length (words_of setting)
 some_words (apart name value) = omega arith
 some_words (joined name value) = omega arith
-some_words summary = omega arith
+some_words (alone switch) = omega arith
 
 -- fewer words are left behind a setting
 shorter : (words : List (List ℕ)) (setting : Setting) (left : List (List ℕ)) (n : ℕ) → first_setting words ≡ Some (setting, left) → length words ≤ suc n → length left ≤ n
@@ -86,8 +91,8 @@ held_from (suc n) words (word ∷ behind) held few so_far = elim (cases_Option (
 
 held_or_not : (words : List (List ℕ)) → AreHeldOrNot words
 held_or_not words =
-    let nothing : Given = record { value = λ name. None; summary = false } in
-    let so_far : HoldsSoFar words nothing words = record { settings = []; words_are = refl; values_are = record { values_are = λ name. refl; summary_is = refl } } in
+    let nothing : Given = record { value = λ name. None; stands = λ switch. false } in
+    let so_far : HoldsSoFar words nothing words = record { settings = []; words_are = refl; values_are = record { values_are = λ name. refl; switches_are = λ switch. refl } } in
     held_from (length words) words words nothing (omega arith) so_far
 
 asks_nothing : (words : List (List ℕ)) (held : Given) → Holds words held → reading held ≡ None → AskForNothing words

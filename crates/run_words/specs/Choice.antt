@@ -13,6 +13,8 @@ use Rattle.run_words.specs.declared.options.Format.TheVariants as formats
 use Rattle.run_words.specs.declared.options.Faces.{Faces}
 use Rattle.run_words.specs.declared.options.Faces.TheVariants as faces
 use Rattle.run_words.specs.declared.options.Plan.{Plan}
+use Rattle.run_words.specs.declared.options.Subdomain.{Subdomain}
+use Rattle.run_words.specs.declared.switch.Switch.TheVariants as switches
 use Rattle.run_words.specs.declared.options.Source as rust_source
 use Rattle.run_words.specs.declared.options.Source.TheVariants as sources
 use Rattle.run_words.specs.declared.options.Destination as rust_destination
@@ -49,6 +51,7 @@ pub record Choice : Type 0 where
   pub plan : Plan
   pub digits : ℕ
   pub faces : Faces
+  pub subdomain : Option Subdomain
   pub output : Output
 
 -- the same, as the program has it
@@ -72,6 +75,7 @@ seen options = record {
   plan = options.plan;
   digits = options.digits;
   faces = options.faces;
+  subdomain = options.subdomain;
   output = seen_output options.output;
 }
 
@@ -109,6 +113,11 @@ abbrev pub output_of : Option (List ℕ) → Option (List ℕ) → Bool → Outp
 output_of matrix rhs true = summary
 output_of matrix rhs false = both (unwrap_or (option_map destination_of matrix) standard) (option_map destination_of rhs)
 
+-- by the values of `--subdomain` and `--ghost`, and whether `--ghost-cells` stands
+abbrev pub subdomain_of : Option (List ℕ) → Option (List ℕ) → Bool → Option Subdomain
+subdomain_of None parts cells = None
+subdomain_of (Some id) parts cells = Some (record { id = digits_value id; ghost_parts = named_or faces.None faces_of parts; ghost_cells = cells })
+
 abbrev pub mode_in : Given → Mode
 mode_in given = named_or (modes.System systems.Serial) mode_of (given.value names.Mode)
 
@@ -123,5 +132,6 @@ chosen given = record {
   plan = plan_of given;
   digits = number_or 0 (given.value names.Digits);
   faces = named_or faces.None faces_of (given.value names.Faces);
-  output = output_of (given.value names.Matrix) (given.value names.Rhs) given.summary;
+  subdomain = subdomain_of (given.value names.Subdomain) (given.value names.Ghost) (given.stands switches.GhostCells);
+  output = output_of (given.value names.Matrix) (given.value names.Rhs) (given.stands switches.Summary);
 }

@@ -1,4 +1,5 @@
 pub mod Names
+pub mod Switches
 pub mod Settings
 pub mod Openings
 pub mod Held

@@ -19,6 +19,8 @@ spelled names.Rhs = codes "--rhs"
 spelled names.Generate = codes "--generate"
 spelled names.Seed = codes "--seed"
 spelled names.Format = codes "--format"
+spelled names.Subdomain = codes "--subdomain"
+spelled names.Ghost = codes "--ghost"
 
 -- the place of an option among all of them
 abbrev pub place_of : Name → ℕ
@@ -36,10 +38,12 @@ place_of names.Rhs = 10
 place_of names.Generate = 11
 place_of names.Seed = 12
 place_of names.Format = 13
+place_of names.Subdomain = 14
+place_of names.Ghost = 15
 
 -- two options are one exactly where their places are equal
 abbrev pub same_name : Name → Name → Bool
 same_name name other = nat_eq (place_of name) (place_of other)
 
 abbrev pub all_names : List Name
-all_names = names.Mode ∷ names.Mesh ∷ names.Problem ∷ names.Workers ∷ names.Queue ∷ names.Chunk ∷ names.Scratch ∷ names.Digits ∷ names.Faces ∷ names.Matrix ∷ names.Rhs ∷ names.Generate ∷ names.Seed ∷ names.Format ∷ []
+all_names = names.Mode ∷ names.Mesh ∷ names.Problem ∷ names.Workers ∷ names.Queue ∷ names.Chunk ∷ names.Scratch ∷ names.Digits ∷ names.Faces ∷ names.Matrix ∷ names.Rhs ∷ names.Generate ∷ names.Seed ∷ names.Format ∷ names.Subdomain ∷ names.Ghost ∷ []

@@ -3,7 +3,7 @@ use Rattle.std.specs.Prelude.{ℕ, ◌*◌, List, Bool, true, false, ◌&&◌, c
 use Rattle.std.specs.declared.option.Option.{Option}
 use Rattle.std.specs.Option.{option_map, option_and_then}
 use Rattle.std.specs.Str.{bytes_eq}
-use Rattle.fem_fixed.specs.Numbers.{digits_value}
+use Rattle.fem_fixed.specs.Numbers.{digits_value, id_of}
 use Rattle.run_words.specs.declared.name.Name.TheVariants as names
 use Rattle.run_words.specs.declared.options.Mode.TheVariants as modes
 use Rattle.run_words.specs.declared.options.SystemMode.TheVariants as systems
@@ -11,6 +11,8 @@ use Rattle.run_words.specs.declared.options.Format.{Format}
 use Rattle.run_words.specs.declared.options.Format.TheVariants as formats
 use Rattle.run_words.specs.declared.options.Faces.TheVariants as faces
 use Rattle.run_words.specs.declared.options.Plan.{Plan}
+use Rattle.run_words.specs.declared.options.Subdomain.{Subdomain}
+use Rattle.run_words.specs.declared.switch.Switch.TheVariants as switches
 use Rattle.run_words.specs.Settings.{Given}
 use Rattle.run_words.specs.Values.{is_name, is_number, is_number_within, mode_of, format_of, faces_of}
 use Rattle.run_words.specs.Choice.{Source, texts, generated, Destination, standard, named, Output, summary, both, destination_of, Choice}
@@ -71,6 +73,12 @@ read_output matrix (Some rhs) false sums =
     if sums then read_or standard read_destination matrix >>= (λ first. read_destination rhs >>= (λ second. two_outputs first second)) else None
 read_output _ _ _ _ = None
 
+unfoldable pub read_subdomain : Option (List ℕ) → Option (List ℕ) → Bool → Option (Option Subdomain)
+read_subdomain None None false = Some None
+read_subdomain (Some word) parts cells =
+    id_of word >>= (λ id. read_or faces.None faces_of parts >>= (λ sides. Some (Some (record { id = id; ghost_parts = sides; ghost_cells = cells }))))
+read_subdomain _ _ _ = None
+
 unfoldable pub reading : Given → Option Choice
 reading given = do
   mode ← read_or (modes.System systems.Serial) mode_of (given.value names.Mode)
@@ -79,5 +87,6 @@ reading given = do
   plan ← read_plan given
   digits ← read_or 0 (number_within 0 64) (given.value names.Digits)
   faces ← read_or faces.None faces_of (given.value names.Faces)
-  output ← read_output (given.value names.Matrix) (given.value names.Rhs) given.summary (has_sums mode)
-  Some (record { mode = mode; source = source; plan = plan; digits = digits; faces = faces; output = output })
+  subdomain ← read_subdomain (given.value names.Subdomain) (given.value names.Ghost) (given.stands switches.GhostCells)
+  output ← read_output (given.value names.Matrix) (given.value names.Rhs) (given.stands switches.Summary) (has_sums mode)
+  Some (record { mode = mode; source = source; plan = plan; digits = digits; faces = faces; subdomain = subdomain; output = output })

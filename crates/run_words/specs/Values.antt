@@ -5,7 +5,7 @@ use Rattle.std.specs.declared.option.Option.{Option}
 use Rattle.std.specs.List.{list_all, starts_with}
 use Rattle.std.specs.Option.{option_map}
 use Rattle.std.specs.Str.{bytes_eq}
-use Rattle.fem_fixed.specs.Numbers.{digits_value}
+use Rattle.fem_fixed.specs.Numbers.{digits_value, is_id}
 use Rattle.run_words.specs.declared.name.Name.{Name}
 use Rattle.run_words.specs.declared.name.Name.TheVariants as names
 use Rattle.run_words.specs.declared.options.Mode.{Mode}
@@ -74,3 +74,5 @@ is_in_set names.Rhs value = is_name value
 is_in_set names.Generate value = is_number_within 1 512 value
 is_in_set names.Seed value = is_number_within 0 18446744073709551615 value
 is_in_set names.Format value = is_some (format_of value)
+is_in_set names.Subdomain value = is_id value
+is_in_set names.Ghost value = is_some (faces_of value)

@@ -5,6 +5,7 @@ use Rattle.std.specs.List.{flat_map}
 use Rattle.std.specs.Str.{bytes_eq}
 use Rattle.run_words.specs.declared.name.Name.{Name}
 use Rattle.run_words.specs.declared.name.Name.TheVariants as names
+use Rattle.run_words.specs.declared.switch.Switch.TheVariants as switches
 use Rattle.run_words.specs.declared.options.Mode.{Mode}
 use Rattle.run_words.specs.declared.options.Mode.TheVariants as modes
 use Rattle.run_words.specs.declared.options.SystemMode.TheVariants as systems
@@ -63,9 +64,14 @@ pub record OutputRules (matrix rhs : Option (List ℕ)) (summary sums : Bool) : 
   pub needs_sums : ((is_some rhs || summary) && not sums) ≡ false
   pub alone : (summary && (is_some matrix || is_some rhs)) ≡ false
 
+-- of `--ghost` and `--ghost-cells`: what ghosts there are is told by the subdomain
+abbrev pub SubdomainRule : Option (List ℕ) → Option (List ℕ) → Bool → Type 0
+SubdomainRule subdomain parts cells = ((is_some parts || cells) && not (is_some subdomain)) ≡ false
+
 pub record KeepsRules (given : Given) : Type 0 where
   pub source : SourceRules (given.value names.Mesh) (given.value names.Problem) (given.value names.Generate) (given.value names.Seed) (format_in given)
-  pub output : OutputRules (given.value names.Matrix) (given.value names.Rhs) given.summary (has_sums (mode_in given))
+  pub output : OutputRules (given.value names.Matrix) (given.value names.Rhs) (given.stands switches.Summary) (has_sums (mode_in given))
+  pub subdomain : SubdomainRule (given.value names.Subdomain) (given.value names.Ghost) (given.stands switches.GhostCells)
 
 -- the words ask for this: they are settings, no option stands twice, each value is in its set, the rules between
 -- options are kept, and the choice is what the settings give

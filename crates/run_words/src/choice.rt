@@ -4,12 +4,16 @@ ghost use Rattle.run_words.specs.Held.{seen_settings};
 ghost use Rattle.run_words.specs.Words.{has_sums};
 ghost use Rattle.run_words.specs.Values.{mode_of, format_of, faces_of};
 ghost use Rattle.run_words.specs.Choice.{standard, seen, seen_source, seen_destination, seen_output, destination_of};
-ghost use Rattle.run_words.specs.Reading.{reading, read_or, read_plan, read_source, read_destination, read_output, two_texts, two_outputs, is_same_name};
+ghost use Rattle.run_words.specs.Reading.{reading, read_or, read_plan, read_source, read_subdomain, read_destination, read_output, two_texts, two_outputs, is_same_name};
 
 use crate::name::Name;
 use crate::settings::Settings;
+use crate::switch::Switch;
 use crate::values::{faces_of, format_of, mode_of, name_of, number_or, number_within};
-use crate::{Destination, Faces, Format, Mode, Options, Output, Plan, Source, SystemMode};
+use crate::{
+    Destination, Faces, Format, Mode, Options, Output, Plan, Source, Subdomain, SystemMode,
+};
+use fem_fixed::read_id;
 
 /// What the options that stand ask for, where each value is in its set and the rules between options are kept.
 #[tactic(auto, unfolding(crate::specs::Reading::reading))]
@@ -28,10 +32,15 @@ pub(crate) fn options_of<'a>(settings: &Settings<'a>) -> Option<Options<'a>>
     let plan = plan_of(settings)?;
     let digits = number_or(0, 0, 64, settings.value(Name::Digits))?;
     let faces = faces_or_none(settings.value(Name::Faces))?;
+    let subdomain = subdomain_of(
+        settings.value(Name::Subdomain),
+        settings.value(Name::Ghost),
+        settings.stands(Switch::GhostCells),
+    )?;
     let output = output_of(
         settings.value(Name::Matrix),
         settings.value(Name::Rhs),
-        settings.wants_summary(),
+        settings.stands(Switch::Summary),
         has_sums(mode),
     )?;
     Some(Options {
@@ -40,6 +49,7 @@ pub(crate) fn options_of<'a>(settings: &Settings<'a>) -> Option<Options<'a>>
         plan,
         digits,
         faces,
+        subdomain,
         output,
     })
 }
@@ -135,6 +145,29 @@ fn two_texts<'a>(mesh: &'a str, format: Format, problem: &'a str) -> Option<Sour
         format,
         problem: Some(problem),
     })
+}
+
+#[tactic(auto, unfolding(crate::specs::Reading::read_subdomain))]
+fn subdomain_of(
+    subdomain: Option<&str>,
+    ghost_parts: Option<&str>,
+    ghost_cells: bool,
+) -> Option<Option<Subdomain>>
+    ensures { result ≡ read_subdomain (option_copied subdomain.entry) (option_copied ghost_parts.entry) ghost_cells }
+{
+    match (subdomain, ghost_parts, ghost_cells) {
+        (None, None, false) => Some(None),
+        (Some(word), ghost_parts, ghost_cells) => {
+            let id = read_id(word.as_bytes())?;
+            let ghost_parts = faces_or_none(ghost_parts)?;
+            Some(Some(Subdomain {
+                id,
+                ghost_parts,
+                ghost_cells,
+            }))
+        }
+        _ => None,
+    }
 }
 
 #[tactic(auto, unfolding(crate::specs::Reading::read_output))]

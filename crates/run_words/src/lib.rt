@@ -7,9 +7,12 @@ mod opening;
 mod options;
 mod reader;
 mod settings;
+mod switch;
 mod values;
 mod wait;
 
-pub use options::{Destination, Faces, Format, Mode, Options, Output, Plan, Source, SystemMode};
+pub use options::{
+    Destination, Faces, Format, Mode, Options, Output, Plan, Source, Subdomain, SystemMode,
+};
 pub use reader::{choices_are_within, one_reading, read_words, words_have_a_reading};
 pub use wait::{ordered_is_named, wants_wait};

@@ -19,10 +19,12 @@ pub(crate) enum Name {
     Generate,
     Seed,
     Format,
+    Subdomain,
+    Ghost,
 }
 
 impl Name {
-    pub(crate) const COUNT: usize = 14;
+    pub(crate) const COUNT: usize = 16;
 
     #[tactic(auto, unfolding(crate::specs::Names::spelled))]
     fn spelled(self) -> &'static str
@@ -43,6 +45,8 @@ impl Name {
             Name::Generate => "--generate",
             Name::Seed => "--seed",
             Name::Format => "--format",
+            Name::Subdomain => "--subdomain",
+            Name::Ghost => "--ghost",
         }
     }
 
@@ -54,7 +58,7 @@ impl Name {
     }
 }
 
-const NAMES: [Name; 14] = [
+const NAMES: [Name; 16] = [
     Name::Mode,
     Name::Mesh,
     Name::Problem,
@@ -69,6 +73,8 @@ const NAMES: [Name; 14] = [
     Name::Generate,
     Name::Seed,
     Name::Format,
+    Name::Subdomain,
+    Name::Ghost,
 ];
 
 /// The option that a word spells.

@@ -42,6 +42,15 @@ pub enum Faces {
     Both,
 }
 
+/// The run of one subdomain: its number, from which sides its cells' parts with ghosts are visited, and whether the
+/// ghosts are.
+#[derive(Clone, Copy, Debug, PartialEq, Eq)]
+pub struct Subdomain {
+    pub id: u32,
+    pub ghost_parts: Faces,
+    pub ghost_cells: bool,
+}
+
 /// What is assembled.
 #[derive(Clone, Copy, Debug, PartialEq, Eq)]
 pub enum Source<'a> {
@@ -89,7 +98,8 @@ pub enum Output<'a> {
     },
 }
 
-/// What the words ask for. `digits` is how many leading binary digits each sum keeps; 0 keeps all.
+/// What the words ask for. `digits` is how many leading binary digits each sum keeps; 0 keeps all. Where no
+/// subdomain is named, the run is over all cells.
 #[derive(Clone, Copy, Debug, PartialEq, Eq)]
 pub struct Options<'a> {
     pub mode: Mode,
@@ -97,5 +107,6 @@ pub struct Options<'a> {
     pub plan: Plan,
     pub digits: u32,
     pub faces: Faces,
+    pub subdomain: Option<Subdomain>,
     pub output: Output<'a>,
 }

@@ -2,19 +2,21 @@ ghost use Rattle.std.specs.Prelude.{◌≡◌, length};
 
 use crate::name::Name;
 use crate::opening::{Opening, opening_of};
+use crate::switch::Switch;
 
 /// The options that stand, with their values.
 #[derive(Drop)]
 pub(crate) struct Settings<'a> {
     values: [Option<&'a str>; Name::COUNT],
-    summary: bool,
-    ghost full: { length values ≡ 14 },
+    switches: [bool; Switch::COUNT],
+    ghost full: { length values ≡ 16 },
+    ghost both: { length switches ≡ 2 },
 }
 
 impl<'a> Settings<'a> {
-    ghost use Rattle.std.specs.Prelude.{◌∷◌, true, false, map, string_bytes, IfSome, IfNone, OnSome, IsSome};
+    ghost use Rattle.std.specs.Prelude.{◌∷◌, true, map, string_bytes, IfSome, IfNone, OnSome, IsSome};
     ghost use Rattle.std.specs.Option.{option_copied};
-    ghost use Rattle.run_words.specs.Held.{seen_settings, Sets, Takes, CannotTake, Holds, CannotHold};
+    ghost use Rattle.run_words.specs.Held.{seen_settings, Sets, Turns, Takes, CannotTake, Holds, CannotHold};
 
     /// The options of these words, where the words are settings and no option stands twice.
     pub(crate) fn read(words: &'a [String]) -> Option<Settings<'a>>
@@ -23,7 +25,7 @@ impl<'a> Settings<'a> {
     {
         let mut settings = Settings {
             values: [None; Name::COUNT],
-            summary: false,
+            switches: [false; Switch::COUNT],
         };
         let mut left = words;
         while let [word, behind @ ..] = left {
@@ -39,11 +41,11 @@ impl<'a> Settings<'a> {
         self.values[name.place()]
     }
 
-    /// Whether `--summary` stands.
-    pub(crate) fn wants_summary(&self) -> bool
-        ensures { result ≡ (seen_settings self.now).summary }
+    /// Whether an option without a value stands.
+    pub(crate) fn stands(&self, switch: Switch) -> bool
+        ensures { result ≡ (seen_settings self.now).stands switch }
     {
-        self.summary
+        self.switches[switch.place()]
     }
 
     // Takes the setting that begins with a word, and answers the words behind it.
@@ -52,8 +54,8 @@ impl<'a> Settings<'a> {
         ensures none { IfNone result (CannotTake (seen_settings self.old) (word.now ∷ map string_bytes behind.now)) }
     {
         match opening_of(word)? {
-            Opening::Summary => {
-                self.set_summary()?;
+            Opening::Alone(switch) => {
+                self.turn_on(switch)?;
                 Some(behind)
             }
             Opening::Joined(name, value) => {
@@ -81,15 +83,14 @@ impl<'a> Settings<'a> {
         Some(())
     }
 
-    fn set_summary(&mut self) -> Option<()>
-        ensures some { OnSome result (seen_settings self.new ≡ record (seen_settings self.old) { summary = true }) }
-        ensures free { OnSome result ((seen_settings self.old).summary ≡ false) }
-        ensures none { IfNone result ((seen_settings self.old).summary ≡ true) }
+    fn turn_on(&mut self, switch: Switch) -> Option<()>
+        ensures some { OnSome result (Turns (seen_settings self.old) switch (seen_settings self.new)) }
+        ensures none { IfNone result ((seen_settings self.old).stands switch ≡ true) }
     {
-        if self.summary {
+        if self.stands(switch) {
             return None;
         }
-        self.summary = true;
+        self.switches[switch.place()] = true;
         Some(())
     }
 }

@@ -1,7 +1,7 @@
 //! Set-ups of drawn meshes.
 use grid_texts::generate;
 use mesh_loop::Setup;
-use mesh_visits::Interior;
+use mesh_visits::{Flags, Interior};
 use problem_read::read_problem;
 use std::thread::Threads;
 use system_setup::set_up;
@@ -31,5 +31,14 @@ pub(crate) fn drawn<R: Threads + Sync + AllocGlobal>(
         Ok(problem) => problem,
         Err(_) => return None,
     };
-    set_up(rt, alloc, parts, problem, interior).ok()
+    let flags = Flags {
+        cells: true,
+        boundary: true,
+        interior,
+        cells_after_faces: false,
+        own: None,
+        ghost_parts: Interior::None,
+        ghost_cells: false,
+    };
+    set_up(rt, alloc, parts, problem, flags).ok()
 }

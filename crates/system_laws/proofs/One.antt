@@ -10,7 +10,7 @@ use Rattle.affine_constraints.specs.Lines.{AffineLine}
 use Rattle.dof_numbers.specs.Dofs.{Numbering, IsNumberingOf, names_each, corner_dof}
 use Rattle.constrained_mesh.specs.MeshLines.{dof_count}
 use Rattle.problem_read.specs.Entries.{ProblemParts}
-use Rattle.mesh_visits.specs.declared.flags.Interior.{Interior}
+use Rattle.mesh_visits.specs.declared.flags.Flags.{Flags}
 use Rattle.sparsity.specs.Coupled.{pairs_of}
 use Rattle.mesh_loop.specs.Setup.{MeshProblem, coupled_dofs}
 use Rattle.diagnostics.specs.declared.refusal.Refusal.{Refusal}
@@ -45,8 +45,8 @@ same_forest a b c d e s f = record {
   cells = ap active_cells e ∙ s.cells ∙ sym (ap active_cells f);
 }
 
-same_made : (a b : RefinedMesh) → IsSameForest a b → (interior : Interior) (problem : ProblemParts) (table : List (Option AffineLine)) (s t : MeshProblem) → IsMadeOf a problem table interior s → IsMadeOf b problem table interior t → IsSameSetUp s t
-same_made a b same interior problem table s t m n = record {
+same_made : (a b : RefinedMesh) → IsSameForest a b → (flags : Flags) (problem : ProblemParts) (table : List (Option AffineLine)) (s t : MeshProblem) → IsMadeOf a problem table flags s → IsMadeOf b problem table flags t → IsSameSetUp s t
+same_made a b same flags problem table s t m n = record {
   given = record {
     forest = same_forest a b s.given.forest t.given.forest m.forest_is same n.forest_is;
     dofs = same_rows a b same s.given.dofs t.given.dofs m.degree n.degree m.numbered n.numbered;
@@ -60,14 +60,14 @@ same_made a b same interior problem table s t m n = record {
 not_both : (n m k : ℕ) → n ≤ k → k < m → n ≡ m → ⊥
 not_both n m k h l e = omega arith
 
-one_pattern : (a b : RefinedMesh) → IsSameForest a b → (interior : Interior) (problem : ProblemParts) (table : List (Option AffineLine)) (x y : Result MeshProblem Refusal) →
-    PatternedFor interior problem a table x → PatternedFor interior problem b table y → AgreeOn x y
-one_pattern a b same interior problem table (Ok s) (Ok t) w v = one_system s t (same_made a b same interior problem table s t w.0 v.0)
-one_pattern a b same interior problem table (Ok s) (Err q) w v =
-    not_both (pairs_of (coupled_dofs s)) (pairs_of (coupled_dofs v.0)) 33554432 w.1 v.2 (ap pairs_of (same_couplings s v.0 (same_made a b same interior problem table s v.0 w.0 v.1)))
-one_pattern a b same interior problem table (Err r) (Ok t) w v =
-    not_both (pairs_of (coupled_dofs t)) (pairs_of (coupled_dofs w.0)) 33554432 v.1 w.2 (sym (ap pairs_of (same_couplings w.0 t (same_made a b same interior problem table w.0 t w.1 v.0))))
-one_pattern a b same interior problem table (Err r) (Err q) w v = w.3 ∙ sym v.3
+one_pattern : (a b : RefinedMesh) → IsSameForest a b → (flags : Flags) (problem : ProblemParts) (table : List (Option AffineLine)) (x y : Result MeshProblem Refusal) →
+    PatternedFor flags problem a table x → PatternedFor flags problem b table y → AgreeOn x y
+one_pattern a b same flags problem table (Ok s) (Ok t) w v = one_system s t (same_made a b same flags problem table s t w.0 v.0)
+one_pattern a b same flags problem table (Ok s) (Err q) w v =
+    not_both (pairs_of (coupled_dofs s)) (pairs_of (coupled_dofs v.0)) 33554432 w.1 v.2 (ap pairs_of (same_couplings s v.0 (same_made a b same flags problem table s v.0 w.0 v.1)))
+one_pattern a b same flags problem table (Err r) (Ok t) w v =
+    not_both (pairs_of (coupled_dofs t)) (pairs_of (coupled_dofs w.0)) 33554432 v.1 w.2 (sym (ap pairs_of (same_couplings w.0 t (same_made a b same flags problem table w.0 t w.1 v.0))))
+one_pattern a b same flags problem table (Err r) (Err q) w v = w.3 ∙ sym v.3
 
 told : (x y : Result MeshProblem Refusal) (r q : Refusal) → x ≡ Err r → y ≡ Err q → r ≡ q → AgreeOn x y
 told x y r q e f s = (let P : Result MeshProblem Refusal → Type 0 = λ o. AgreeOn o y in let Q : Result MeshProblem Refusal → Type 0 = λ o. AgreeOn (Err r) o in subst P (sym e) (subst Q (sym f) s))
@@ -84,27 +84,27 @@ same_value t u e = cc
 no_value : (t : List (Option AffineLine)) (r : Refusal) → (let o : Lined = Ok t in o) ≡ Err r → ⊥
 no_value t r e = cc
 
-one_on : (a b : RefinedMesh) → IsSameForest a b → (interior : Interior) (ids : List ℕ) (problem : ProblemParts) (x y : Result MeshProblem Refusal) → SetUpOn interior ids problem a x → SetUpOn interior ids problem b y → AgreeOn x y
-one_on a b s interior ids problem x y (stops r w e) (stops q v f) = told x y r q e f (same_refusal r q (same_lines a b s ids problem (Err r) (Err q) w v))
-one_on a b s interior ids problem x y (stops r w e) (goes u v k) = absurd (no_value u r (sym (same_lines a b s ids problem (Err r) (Ok u) w v)))
-one_on a b s interior ids problem x y (goes t w h) (stops q v f) = absurd (no_value t q (same_lines a b s ids problem (Ok t) (Err q) w v))
-one_on a b s interior ids problem x y (goes t w h) (goes u v k) =
-    let P : List (Option AffineLine) → Type 0 = λ table. PatternedFor interior problem a table x in
-    one_pattern a b s interior problem u x y (subst P (same_value t u (same_lines a b s ids problem (Ok t) (Ok u) w v)) h) k
+one_on : (a b : RefinedMesh) → IsSameForest a b → (flags : Flags) (ids : List ℕ) (problem : ProblemParts) (x y : Result MeshProblem Refusal) → SetUpOn flags ids problem a x → SetUpOn flags ids problem b y → AgreeOn x y
+one_on a b s flags ids problem x y (stops r w e) (stops q v f) = told x y r q e f (same_refusal r q (same_lines a b s ids problem (Err r) (Err q) w v))
+one_on a b s flags ids problem x y (stops r w e) (goes u v k) = absurd (no_value u r (sym (same_lines a b s ids problem (Err r) (Ok u) w v)))
+one_on a b s flags ids problem x y (goes t w h) (stops q v f) = absurd (no_value t q (same_lines a b s ids problem (Ok t) (Err q) w v))
+one_on a b s flags ids problem x y (goes t w h) (goes u v k) =
+    let P : List (Option AffineLine) → Type 0 = λ table. PatternedFor flags problem a table x in
+    one_pattern a b s flags problem u x y (subst P (same_value t u (same_lines a b s ids problem (Ok t) (Ok u) w v)) h) k
 
 -- one fault has one refusal
 one_refusal : (e f : Ending) (r q : Refusal) → e ≡ f → e ≡ Refused r → f ≡ Refused q → r ≡ q
 one_refusal e f r q s h k = let t : Refused r ≡ Refused q = sym h ∙ s ∙ k in cc
 
-one_from : (mesh : CoarseMesh) (interior : Interior) (ids : List ℕ) (problem : ProblemParts) (x y : Result MeshProblem Refusal) →
-    Then (RefinedFrom mesh problem) (SetUpOn interior ids problem) x → Then (RefinedFrom mesh problem) (SetUpOn interior ids problem) y → AgreeOn x y
-one_from mesh interior ids problem x y (stops r w e) (stops q v f) =
+one_from : (mesh : CoarseMesh) (flags : Flags) (ids : List ℕ) (problem : ProblemParts) (x y : Result MeshProblem Refusal) →
+    Then (RefinedFrom mesh problem) (SetUpOn flags ids problem) x → Then (RefinedFrom mesh problem) (SetUpOn flags ids problem) y → AgreeOn x y
+one_from mesh flags ids problem x y (stops r w e) (stops q v f) =
     let s : w.0 ≡ v.0 = same_steps problem.steps (unrefined mesh) (unrefined mesh) (record { mesh = refl; cells = refl }) (Err w.0) (Err v.0) w.1 v.1 in
     told x y r q e f (one_refusal (of_refining w.0) (of_refining v.0) r q (ap of_refining s) w.2 v.2)
-one_from mesh interior ids problem x y (stops r w e) (goes b v k) = absurd (same_steps problem.steps (unrefined mesh) (unrefined mesh) (record { mesh = refl; cells = refl }) (Err w.0) (Ok b) w.1 v)
-one_from mesh interior ids problem x y (goes a w h) (stops q v f) = absurd (same_steps problem.steps (unrefined mesh) (unrefined mesh) (record { mesh = refl; cells = refl }) (Ok a) (Err v.0) w v.1)
-one_from mesh interior ids problem x y (goes a w h) (goes b v k) =
-    one_on a b (same_steps problem.steps (unrefined mesh) (unrefined mesh) (record { mesh = refl; cells = refl }) (Ok a) (Ok b) w v) interior ids problem x y h k
+one_from mesh flags ids problem x y (stops r w e) (goes b v k) = absurd (same_steps problem.steps (unrefined mesh) (unrefined mesh) (record { mesh = refl; cells = refl }) (Err w.0) (Ok b) w.1 v)
+one_from mesh flags ids problem x y (goes a w h) (stops q v f) = absurd (same_steps problem.steps (unrefined mesh) (unrefined mesh) (record { mesh = refl; cells = refl }) (Ok a) (Err v.0) w v.1)
+one_from mesh flags ids problem x y (goes a w h) (goes b v k) =
+    one_on a b (same_steps problem.steps (unrefined mesh) (unrefined mesh) (record { mesh = refl; cells = refl }) (Ok a) (Ok b) w v) flags ids problem x y h k
 
 abbrev pub Meshed : Type 0
 Meshed = Result CoarseMesh MeshFault
@@ -119,10 +119,10 @@ not_coarse : (o : Meshed) (m : CoarseMesh) (f : MeshFault) → o ≡ Ok m → o 
 not_coarse o m f h k = cc
 
 pub one : HasOneSystem
-one interior parts problem x y (stops r w e) (stops q v f) =
+one flags parts problem x y (stops r w e) (stops q v f) =
     told x y r q e f (one_refusal (of_mesh w.0) (of_mesh v.0) r q (ap of_mesh (same_coarse_fault (mesh_of parts.points parts.quads parts.lines) w.0 v.0 w.1 v.1)) w.2 v.2)
-one interior parts problem x y (stops r w e) (goes n v k) = absurd (not_coarse (mesh_of parts.points parts.quads parts.lines) n w.0 v w.1)
-one interior parts problem x y (goes m w h) (stops q v f) = absurd (not_coarse (mesh_of parts.points parts.quads parts.lines) m v.0 w v.1)
-one interior parts problem x y (goes m w h) (goes n v k) =
-    let P : CoarseMesh → Type 0 = λ mesh. Then (RefinedFrom mesh problem) (SetUpOn interior parts.ids problem) x in
-    one_from n interior parts.ids problem x y (subst P (same_coarse_mesh (mesh_of parts.points parts.quads parts.lines) m n w v) h) k
+one flags parts problem x y (stops r w e) (goes n v k) = absurd (not_coarse (mesh_of parts.points parts.quads parts.lines) n w.0 v w.1)
+one flags parts problem x y (goes m w h) (stops q v f) = absurd (not_coarse (mesh_of parts.points parts.quads parts.lines) m v.0 w v.1)
+one flags parts problem x y (goes m w h) (goes n v k) =
+    let P : CoarseMesh → Type 0 = λ mesh. Then (RefinedFrom mesh problem) (SetUpOn flags parts.ids problem) x in
+    one_from n flags parts.ids problem x y (subst P (same_coarse_mesh (mesh_of parts.points parts.quads parts.lines) m n w v) h) k

@@ -13,7 +13,7 @@ use Rattle.hanging_refine.specs.Refined.{cell_in}
 use Rattle.hanging_refine.specs.Points.{cell_points}
 use Rattle.affine_constraints.specs.Lines.{AffineLine, lines_in}
 use Rattle.problem_read.specs.Entries.{ProblemParts}
-use Rattle.problem_read.specs.LookUps.{diffusion_on, source_on, robin_on, penalty_in}
+use Rattle.problem_read.specs.LookUps.{diffusion_on, source_on, robin_on, penalty_in, subdomain_on}
 use Rattle.fixed_q1.specs.declared.fault.LocalFault.{LocalFault}
 use Rattle.fixed_q1.specs.declared.places.Part.{Part}
 use Rattle.fixed_q1.specs.declared.places.Part.TheVariants.{Whole, Half0, Half1}
@@ -25,8 +25,8 @@ use Rattle.cell_blocks.specs.LocalBlocks.{LocalBlock}
 use Rattle.mesh_visits.specs.declared.flags.Flags.{Flags}
 use Rattle.mesh_visits.specs.declared.visit.Visit.{Visit}
 use Rattle.mesh_visits.specs.declared.visit.Visit.TheVariants.{Cell as OnCell, Boundary as OnBoundary, Interior as OnPart}
-use Rattle.mesh_visits.specs.Visits.{visits_of}
-use Rattle.cell_blocks.specs.Blocks.{Given, material_of, points_of, part_ends, face_form, visit_dofs, visit_form, with_dofs, block_of, all_blocks, blocks_of, cell_blocks}
+use Rattle.mesh_visits.specs.Runs.{subdomain_in, visits_of}
+use Rattle.cell_blocks.specs.Blocks.{Given, material_of, subdomains_of, visits_in, points_of, part_ends, face_form, visit_dofs, visit_form, with_dofs, block_of, all_blocks, blocks_of, cell_blocks}
 use Rattle.block_sums.specs.Parts.{part_of_blocks}
 use Rattle.serial_sum.specs.Parts.{CellPart}
 use Rattle.sparsity.specs.Coupled.{has, rows_of}
@@ -81,11 +81,23 @@ same_block : (g h : Given) → IsSameGiven g h → (cell : ℕ) (visit : Visit) 
 unfolding block_of
 same_block g h s cell visit = ap₂ with_dofs (same_dofs g h s cell visit) (same_form g h s cell visit)
 
+-- each cell has the same subdomain
+same_subdomains : (g h : Given) → IsSameGiven g h → subdomains_of g ≡ subdomains_of h
+unfolding subdomains_of
+same_subdomains g h s =
+    ap₂ {C = List ℕ} (λ (subdomain : ℕ → ℕ) (count : ℕ). map subdomain (range_with_len 0 count))
+    (fun_ext (λ cell. ap₂ subdomain_on s.problem (same_material g h s cell))) (same_count g.forest h.forest s.forest)
+
+same_run : (flags : Flags) (g h : Given) → IsSameGiven g h → (cell : ℕ) → visits_in flags g cell ≡ visits_in flags h cell
+same_run flags g h s cell =
+    ap (λ (list : List ℕ). visits_of (subdomain_in list) flags g.forest cell) (same_subdomains g h s)
+    ∙ ap (λ (visits : ℕ → List Visit). visits cell) (same_visits (subdomain_in (subdomains_of h)) flags g.forest h.forest s.forest)
+
 same_blocks : (flags : Flags) (g h : Given) → IsSameGiven g h → (cell : ℕ) → cell_blocks flags g cell ≡ cell_blocks flags h cell
 unfolding blocks_of
 same_blocks flags g h s cell =
     ap₂ (λ (block : Visit → Result LocalBlock LocalFault) (visits : List Visit). all_blocks (map block visits)) (fun_ext (λ visit. same_block g h s cell visit))
-    (ap (λ visits. visits cell) (same_visits flags g.forest h.forest s.forest))
+    (same_run flags g h s cell)
 
 -- two set-ups of one problem over such meshes
 pub record IsSameSetUp (s t : MeshProblem) : Type 0 where
@@ -98,7 +110,7 @@ same_cells : (s t : MeshProblem) → IsSameSetUp s t → cells_of s ≡ cells_of
 same_cells s t e = ap (range_with_len 0) (same_count s.given.forest t.given.forest e.given.forest)
 
 same_cell_visits : (s t : MeshProblem) → IsSameSetUp s t → cell_visits s ≡ cell_visits t
-same_cell_visits s t e = ap (λ flags. visits_of flags s.given.forest) e.flags ∙ same_visits t.flags s.given.forest t.given.forest e.given.forest
+same_cell_visits s t e = fun_ext (λ cell. ap (λ flags. visits_in flags s.given cell) e.flags ∙ same_run t.flags s.given t.given e.given cell)
 
 same_visit_dofs : (s t : MeshProblem) → IsSameSetUp s t → visit_dofs s.given ≡ visit_dofs t.given
 same_visit_dofs s t e = fun_ext (λ cell. fun_ext (λ visit. same_dofs s.given t.given e.given cell visit))

@@ -9,12 +9,11 @@ use Rattle.hanging_refine.specs.Coarse.{corner_at, on_boundary, boundary_id}
 use Rattle.hanging_refine.specs.Refined.{RefinedMesh, coarse_of, cell_in}
 use Rattle.hanging_refine.specs.Sides.{half_end}
 use Rattle.mesh_visits.specs.declared.flags.Flags.{Flags}
-use Rattle.mesh_visits.specs.declared.flags.Interior.{Interior}
-use Rattle.mesh_visits.specs.declared.flags.Interior.TheVariants.{None as Never, Once, Both}
 use Rattle.mesh_visits.specs.declared.visit.Visit.{Visit}
-use Rattle.mesh_visits.specs.declared.visit.Visit.TheVariants.{Boundary as OnBoundary}
+use Rattle.mesh_visits.specs.declared.visit.Visit.TheVariants.{Cell as OnCell, Boundary as OnBoundary}
 use Rattle.mesh_visits.specs.Meeting.{Face, same_pair, is_face, is_equal, is_half, is_outer_of, is_outer, faces_of_cell, all_faces}
-use Rattle.mesh_visits.specs.Visits.{part_visit, part_visits, goes_across, equal_visits, visits_up, visits_down, interior_visits, id_of, boundary_visits, face_visits, faces_visits, cell_visits, visits_of}
+use Rattle.mesh_visits.specs.Visits.{part_visit, part_visits, equal_visits, visits_up, visits_down, interior_visits, id_of, boundary_visits, face_visits, faces_visits, all_visits}
+use Rattle.mesh_visits.specs.Runs.{Subdomains, is_own_cell, is_chosen, outer_visits, visits_of}
 use Rattle.system_laws.proofs.Forests.{IsSameForest, same_count, by_cells}
 
 pub same_equal : (a b : RefinedMesh) → IsSameForest a b → is_equal a ≡ is_equal b
@@ -49,9 +48,9 @@ same_parts a b s = ap (λ faces here mine theirs meets. map (part_visit here.1 m
 Parts : Type 0
 Parts = Face → Part → Part → (Face → Bool) → List Visit
 
-same_equals : (interior : Interior) (a b : RefinedMesh) → IsSameForest a b → equal_visits interior a ≡ equal_visits interior b
+same_equals : (a b : RefinedMesh) → IsSameForest a b → equal_visits a ≡ equal_visits b
 unfolding Parts
-same_equals interior a b s = ap₂ {C = Face → List Visit} (λ (parts : Parts) (equal : Face → Face → Bool) (here : Face). parts here Whole Whole (λ there. goes_across interior here there && equal here there)) (same_parts a b s) (same_equal a b s)
+same_equals a b s = ap₂ {C = Face → List Visit} (λ (parts : Parts) (equal : Face → Face → Bool) (here : Face). parts here Whole Whole (equal here)) (same_parts a b s) (same_equal a b s)
 
 same_up : (a b : RefinedMesh) → IsSameForest a b → visits_up a ≡ visits_up b
 unfolding Parts
@@ -61,26 +60,32 @@ same_down : (a b : RefinedMesh) → IsSameForest a b → visits_down a ≡ visit
 unfolding Parts
 same_down a b s = ap₂ {C = Face → List Visit} (λ (parts : Parts) (half : ℕ → Face → Face → Bool) (here : Face). parts here Half0 Whole (λ there. half 0 there here) ++ parts here Half1 Whole (λ there. half 1 there here)) (same_parts a b s) (same_half a b s)
 
-same_interior : (interior : Interior) (a b : RefinedMesh) → IsSameForest a b → interior_visits interior a ≡ interior_visits interior b
-same_interior Never a b s = refl
-same_interior Once a b s = ap₂ {C = Face → List Visit} (λ (equal up : Face → List Visit) (here : Face). equal here ++ up here) (same_equals Once a b s) (same_up a b s)
-same_interior Both a b s =
-    ap₂ {C = Face → List Visit} (λ (equal up : Face → List Visit) (here : Face). equal here ++ up here ++ visits_down a here) (same_equals Both a b s) (same_up a b s)
-    ∙ ap {B = Face → List Visit} (λ (down : Face → List Visit) (here : Face). equal_visits Both b here ++ visits_up b here ++ down here) (same_down a b s)
+same_interior : (a b : RefinedMesh) → IsSameForest a b → interior_visits a ≡ interior_visits b
+same_interior a b s =
+    ap₂ {C = Face → List Visit} (λ (equal up : Face → List Visit) (here : Face). equal here ++ up here ++ visits_down a here) (same_equals a b s) (same_up a b s)
+    ∙ ap {B = Face → List Visit} (λ (down : Face → List Visit) (here : Face). equal_visits b here ++ visits_up b here ++ down here) (same_down a b s)
 
-same_boundary : (wanted : Bool) (a b : RefinedMesh) → IsSameForest a b → boundary_visits wanted a ≡ boundary_visits wanted b
-same_boundary wanted a b s =
-    ap₂ {C = Face → List Visit} (λ (outer : Face → Bool) (id : Face → ℕ) (here : Face). if wanted && outer here then OnBoundary here.1 (id here) ∷ [] else []) (same_outer a b s) (same_id a b s)
+same_boundary : (a b : RefinedMesh) → IsSameForest a b → boundary_visits a ≡ boundary_visits b
+same_boundary a b s =
+    ap₂ {C = Face → List Visit} (λ (outer : Face → Bool) (id : Face → ℕ) (here : Face). if outer here then OnBoundary here.1 (id here) ∷ [] else []) (same_outer a b s) (same_id a b s)
 
-same_face_visits : (flags : Flags) (a b : RefinedMesh) → IsSameForest a b → face_visits flags a ≡ face_visits flags b
+same_face_visits : (a b : RefinedMesh) → IsSameForest a b → face_visits a ≡ face_visits b
 unfolding face_visits
-same_face_visits flags a b s =
-    ap₂ {C = Face → List Visit} (λ (boundary interior : Face → List Visit) (here : Face). boundary here ++ interior here) (same_boundary flags.boundary a b s) (same_interior flags.interior a b s)
+same_face_visits a b s =
+    ap₂ {C = Face → List Visit} (λ (boundary interior : Face → List Visit) (here : Face). boundary here ++ interior here) (same_boundary a b s) (same_interior a b s)
 
--- the same visits of each cell, in the same order
-pub same_visits : (flags : Flags) (a b : RefinedMesh) → IsSameForest a b → visits_of flags a ≡ visits_of flags b
-unfolding visits_of faces_visits
-same_visits flags a b s =
+-- all visits of each cell are the same, in the same order
+same_all : (first : Bool) (a b : RefinedMesh) → IsSameForest a b → all_visits first a ≡ all_visits first b
+unfolding all_visits faces_visits
+same_all first a b s =
     ap {B = ℕ → List Visit} (λ (visits : Face → List Visit) (cell : ℕ).
-    if flags.cells_after_faces then flat_map (λ face. visits (cell, face)) (0 ∷ 1 ∷ 2 ∷ 3 ∷ []) ++ cell_visits flags else cell_visits flags ++ flat_map (λ face. visits (cell, face)) (0 ∷ 1 ∷ 2 ∷ 3 ∷ []))
-    (same_face_visits flags a b s)
+    if first then flat_map (λ face. visits (cell, face)) (0 ∷ 1 ∷ 2 ∷ 3 ∷ []) ++ OnCell ∷ [] else OnCell ∷ flat_map (λ face. visits (cell, face)) (0 ∷ 1 ∷ 2 ∷ 3 ∷ []))
+    (same_face_visits a b s)
+
+-- and so are those that a run makes
+pub same_visits : (subdomain : Subdomains) (flags : Flags) (a b : RefinedMesh) → IsSameForest a b → visits_of subdomain flags a ≡ visits_of subdomain flags b
+unfolding visits_of
+same_visits subdomain flags a b s =
+    ap {B = ℕ → List Visit} (λ (visits : ℕ → List Visit) (cell : ℕ).
+    if is_own_cell subdomain flags.own cell then filter (is_chosen subdomain flags cell) (visits cell) else outer_visits subdomain flags (visits cell))
+    (same_all flags.cells_after_faces a b s)

@@ -1,5 +1,5 @@
 -- The set-up of the system of a mesh and a problem, step after step.
-use Rattle.std.specs.Prelude.{◌≡◌, ℕ, ◌<◌, ◌≤◌, List, length, true, false, Ok, Err}
+use Rattle.std.specs.Prelude.{◌≡◌, ℕ, ◌<◌, ◌≤◌, List, length, Ok, Err}
 use Rattle.std.specs.declared.option.Option.{Option}
 use Rattle.std.specs.declared.result.Result.{Result}
 use Rattle.fem_fixed.specs.Mesh.{Mesh}
@@ -16,7 +16,6 @@ use Rattle.constrained_mesh.specs.MeshLines.{dof_count}
 use Rattle.constrained_mesh.specs.Nodes.{Nodes}
 use Rattle.constrained_mesh.specs.Constrained.{IsConstrained}
 use Rattle.mesh_visits.specs.declared.flags.Flags.{Flags}
-use Rattle.mesh_visits.specs.declared.flags.Interior.{Interior}
 use Rattle.sparsity.specs.Coupled.{pairs_of}
 use Rattle.mesh_loop.specs.Setup.{MeshProblem, coupled_dofs}
 use Rattle.diagnostics.specs.declared.refusal.Refusal.{Refusal}
@@ -44,29 +43,25 @@ abbrev pub LinesFor : List ℕ → ProblemParts → RefinedMesh → Result (List
 LinesFor ids problem forest (Ok table) = (length table ≡ dof_count 1 forest) × IsConstrained (nodes_of ids forest) problem (Ok (lines_in table))
 LinesFor ids problem forest (Err refusal) = Says of_constraints (λ fault. IsConstrained (nodes_of ids forest) problem (Err fault)) refusal
 
--- each cell and each face at the boundary is visited, and cells first
-abbrev pub flags_for : Interior → Flags
-flags_for interior = record { cells = true; boundary = true; interior = interior; cells_after_faces = false }
-
 -- the set-up is made of these
-pub record IsMadeOf (forest : RefinedMesh) (problem : ProblemParts) (table : List (Option AffineLine)) (interior : Interior) (s : MeshProblem) : Type 0 where
+pub record IsMadeOf (forest : RefinedMesh) (problem : ProblemParts) (table : List (Option AffineLine)) (flags : Flags) (s : MeshProblem) : Type 0 where
   pub forest_is : s.given.forest ≡ forest
   pub problem_is : s.given.problem ≡ problem
   pub degree : s.given.dofs.degree ≡ 1
   pub numbered : IsNumberingOf forest s.given.dofs
   pub lines_are : s.closed ≡ table
-  pub flags_are : s.flags ≡ flags_for interior
+  pub flags_are : s.flags ≡ flags
 
 -- the set-up, or that its pattern has too many entries
-abbrev pub PatternedFor : Interior → ProblemParts → RefinedMesh → List (Option AffineLine) → Result MeshProblem Refusal → Type 0
-PatternedFor interior problem forest table (Ok s) = IsMadeOf forest problem table interior s × (pairs_of (coupled_dofs s) ≤ 33554432)
-PatternedFor interior problem forest table (Err refusal) =
-    (s : MeshProblem) × IsMadeOf forest problem table interior s × (33554432 < pairs_of (coupled_dofs s)) × (refusal ≡ Limit Entries)
+abbrev pub PatternedFor : Flags → ProblemParts → RefinedMesh → List (Option AffineLine) → Result MeshProblem Refusal → Type 0
+PatternedFor flags problem forest table (Ok s) = IsMadeOf forest problem table flags s × (pairs_of (coupled_dofs s) ≤ 33554432)
+PatternedFor flags problem forest table (Err refusal) =
+    (s : MeshProblem) × IsMadeOf forest problem table flags s × (33554432 < pairs_of (coupled_dofs s)) × (refusal ≡ Limit Entries)
 
 -- of a refined mesh
-abbrev pub SetUpOn : Interior → List ℕ → ProblemParts → RefinedMesh → Result MeshProblem Refusal → Type 0
-SetUpOn interior ids problem forest = Then (LinesFor ids problem forest) (PatternedFor interior problem forest)
+abbrev pub SetUpOn : Flags → List ℕ → ProblemParts → RefinedMesh → Result MeshProblem Refusal → Type 0
+SetUpOn flags ids problem forest = Then (LinesFor ids problem forest) (PatternedFor flags problem forest)
 
 -- of a mesh and a problem: the coarse mesh, its refinement, the lines, and the pattern
-abbrev pub IsSetUp : Interior → Mesh → ProblemParts → Result MeshProblem Refusal → Type 0
-IsSetUp interior parts problem = Then (CoarseOf parts.points parts.quads parts.lines) (λ mesh. Then (RefinedFrom mesh problem) (SetUpOn interior parts.ids problem))
+abbrev pub IsSetUp : Flags → Mesh → ProblemParts → Result MeshProblem Refusal → Type 0
+IsSetUp flags parts problem = Then (CoarseOf parts.points parts.quads parts.lines) (λ mesh. Then (RefinedFrom mesh problem) (SetUpOn flags parts.ids problem))

@@ -12,15 +12,14 @@ use dof_numbers::Dofs;
 use fem_fixed::MeshParts;
 use hanging_refine::Forest;
 use mesh_loop::Setup;
-use mesh_visits::{Flags, Interior};
+use mesh_visits::Flags;
 use node_ids::NodeIds;
 use problem_read::Problem;
 use quad_mesh::QuadMesh;
 use std::alloc::Global;
 use std::thread::Threads;
 
-/// The set-up of the system of a mesh and a problem: each cell and each face at the boundary is visited, and the
-/// parts of interior faces as asked.
+/// The set-up of the system of a mesh and a problem, with the visits of the run of these flags.
 ///
 /// # Errors
 ///
@@ -31,12 +30,12 @@ pub fn set_up(
     alloc: Global,
     parts: MeshParts,
     problem: Problem,
-    interior: Interior,
+    flags: Flags,
 ) -> Result<Setup, Ending>
     requires bounded { IsBounded parts }
     requires ids { length parts.ids ≤ 2 ^ 20 }
-    ensures ok { IfOk result (λ setup. IsSetUp interior parts problem (Ok setup)) }
-    ensures refused { IfErr result (EndsIn (IsSetUp interior parts problem)) }
+    ensures ok { IfOk result (λ setup. IsSetUp flags parts problem (Ok setup)) }
+    ensures refused { IfErr result (EndsIn (IsSetUp flags parts problem)) }
 {
     let (ids, mesh) = match coarse_mesh(alloc, parts) {
         Ok(made) => made,
@@ -51,7 +50,7 @@ pub fn set_up(
         Ok(closed) => closed,
         Err(ending) => return Err(ending),
     };
-    with_pattern(rt, alloc, forest, dofs, closed, problem, interior)
+    with_pattern(rt, alloc, forest, dofs, closed, problem, flags)
 }
 
 /// The node ids and the coarse mesh.
@@ -110,20 +109,14 @@ fn with_pattern(
     dofs: Dofs,
     closed: Closed,
     problem: Problem,
-    interior: Interior,
+    flags: Flags,
 ) -> Result<Setup, Ending>
     requires degree { dofs.degree ≡ 1 }
     requires numbered { IsNumberingOf forest dofs }
     requires size { length closed ≡ dofs.size }
-    ensures ok { IfOk result (λ setup. PatternedFor interior problem forest closed (Ok setup)) }
-    ensures refused { IfErr result (EndsIn (PatternedFor interior problem forest closed)) }
+    ensures ok { IfOk result (λ setup. PatternedFor flags problem forest closed (Ok setup)) }
+    ensures refused { IfErr result (EndsIn (PatternedFor flags problem forest closed)) }
 {
-    let flags = Flags {
-        cells: true,
-        boundary: true,
-        interior,
-        cells_after_faces: false,
-    };
     match Setup::build(rt, alloc, forest, dofs, closed, problem, flags) {
         Ok(setup) => Ok(setup),
         Err(fault) => Err(pattern_ending(fault)),

@@ -1,5 +1,5 @@
 //! Mesh texts, and the set-ups of their systems.
-use mesh_loop::{Interior, Setup};
+use mesh_loop::{Flags, Interior, Setup};
 use problem_read::read_problem;
 use std::thread::Threads;
 use system_setup::set_up;
@@ -64,5 +64,14 @@ pub fn set_up_of<R: Threads + Sync + AllocGlobal>(rt: &R, mesh: Mesh) -> Option<
         Ok(problem) => problem,
         Err(_) => return None,
     };
-    set_up(rt, rt.alloc(), parts, problem, interior).ok()
+    let flags = Flags {
+        cells: true,
+        boundary: true,
+        interior,
+        cells_after_faces: false,
+        own: None,
+        ghost_parts: Interior::None,
+        ghost_cells: false,
+    };
+    set_up(rt, rt.alloc(), parts, problem, flags).ok()
 }
