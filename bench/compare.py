@@ -19,6 +19,7 @@ from mesh_cases import random_mesh, random_mesh_text
 from msh_cases import BARE as BARE_MSH, random_msh_text
 from problem_cases import random_problem_text
 from programs import add_case_options, add_program_options, in_turn, kept, placed, run_in, told
+from vector_cases import random_vector_text
 from word_cases import random_words
 
 
@@ -38,8 +39,9 @@ class Case:
         return self.texts[self.given] if self.given else b""
 
 
-def case_of(seed, number, msh=0.3):
-    """Case `number` of a seed, which no other case has a part in; `msh` is how likely its mesh text is in MSH."""
+def case_of(seed, number, chosen):
+    """Case `number` of a seed, which no other case has a part in; how likely its mesh text is in MSH, and its mode one that takes a
+    vector, is chosen by `--msh` and `--vectors`."""
     rng = random.Random(f"{seed}/{number}")
     where = rng.choices(["none", "mesh", "problem", "words"], [10, 4, 4, 3])[0]
     faults = {name: rng.choice([1, 1, 2]) if name == where else 0 for name in ("mesh", "problem", "words")}
@@ -49,8 +51,33 @@ def case_of(seed, number, msh=0.3):
              "problem.txt": random_problem_text(rng, mesh, faults["problem"])}
     if rng.random() < 0.01:
         texts["mesh.inp"], texts["mesh.msh"] = rng.choice(BARE), rng.choice(BARE_MSH)
-    words, given = random_words(rng, faults["words"], msh)
-    return Case(words, texts, given)
+    words, given = random_words(rng, faults["words"], chosen.msh, chosen.vectors)
+    case = Case(words, texts, given)
+    if given == "vector.mtx" or any("vector" in word for word in words):
+        limit = 2 ** 20 if "product" in " ".join(words) else 2 ** 31
+        texts["vector.mtx"] = random_vector_text(rng, size_of(case, chosen), limit)
+    return case
+
+
+def value_of(words, option):
+    """The value of an option that stands among the words, or None."""
+    for word, behind in zip(words, words[1:] + [None]):
+        if word == option:
+            return behind
+        if word.startswith(option + "="):
+            return word[len(option) + 1:]
+    return None
+
+
+def size_of(case, chosen):
+    """How many degrees of freedom the system of a case has, as the peer says it; 6 where there is none."""
+    words = ["--mode", "pattern"]
+    for option in ("--mesh", "--format", "--problem"):
+        value = value_of(case.words, option)
+        words += [option, value] if value is not None else []
+    given = case.given if "-" in words and case.given in case.texts else None
+    lines = run_case(Case(words, case.texts, given), chosen.peer, chosen.limit).out.split(b"\n")
+    return int(lines[1].split()[0]) if len(lines) > 1 else 6
 
 
 def run_case(case, program, limit):
@@ -77,7 +104,7 @@ def kind_of(run):
 
 def both(number, chosen):
     """Runs both programs on one case."""
-    case = case_of(chosen.seed, number, chosen.msh)
+    case = case_of(chosen.seed, number, chosen)
     return number, case, [run_case(case, program, chosen.limit) for program in (chosen.program, chosen.peer)]
 
 
@@ -92,17 +119,18 @@ def report(number, case, ours, peers, chosen):
             print(f"  output line {k}: {a[:80]!r} and {b[:80]!r}")
             break
     print(f"  repeat: bench/compare.py --program {chosen.program} --peer {chosen.peer} --seed {chosen.seed} "
-          f"--msh {chosen.msh} --only {number} --keep FOLDER", flush=True)
+          f"--msh {chosen.msh} --vectors {chosen.vectors} --only {number} --keep FOLDER", flush=True)
 
 
 def main():
     parser = argparse.ArgumentParser(description=__doc__, formatter_class=argparse.RawDescriptionHelpFormatter)
     add_program_options(parser, "required")
     add_case_options(parser, count=1000, limit=60.0)
+    parser.add_argument("--vectors", type=float, default=0.3, help="how likely a mode takes a vector (default 0.3)")
     parser.add_argument("--msh", type=float, default=0.3, help="how likely a mesh text is in MSH (default 0.3)")
     chosen = parser.parse_args()
     if chosen.only is not None and chosen.keep:
-        case = case_of(chosen.seed, chosen.only, chosen.msh)
+        case = case_of(chosen.seed, chosen.only, chosen)
         kept(chosen.keep, case.texts, case.words, case.given)
     kinds, wrong = Counter(), 0
     for number, case, (ours, peers) in in_turn(chosen, lambda number: both(number, chosen)):

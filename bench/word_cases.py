@@ -2,11 +2,12 @@
 
 SUBDOMAINS = ["0", "0", "1", "2", "5", "00", "0000000001", "7", "4294967295"]
 MODES = ["serial", "serial", "serial", "pattern", "colors", "colored", "ordered", "mesh"]
+VECTOR_MODES = ["product", "product", "marks", "adapt"]
 
 
-def some_settings(rng):
+def some_settings(rng, vectors):
     """Settings that are accepted, as pairs of an option and a value; None is no value."""
-    mode = rng.choice(MODES)
+    mode = rng.choice(VECTOR_MODES if rng.random() < vectors else MODES)
     chosen = [("--mode", mode)] if mode != "serial" or rng.random() < 0.5 else []
     for option, most, usual in (("--workers", 64, 4), ("--queue", 256, 8), ("--chunk", 64, 4), ("--scratch", 64, 4)):
         if rng.random() < 0.3:
@@ -15,6 +16,10 @@ def some_settings(rng):
         chosen.append(("--digits", rng.choice(["0", "1", "5", "24", "53", "64", "00024"])))
     if rng.random() < 0.5:
         chosen.append(("--faces", rng.choice(["none", "once", "both"])))
+    if mode in VECTOR_MODES:
+        chosen.append(("--vector", rng.choice(["vector.mtx"] * 20 + ["absent.mtx"])))
+    if mode in ("marks", "adapt") and rng.random() < 0.7:
+        chosen.append(("--mark", rng.choice(["1", "2", "3", "05", "1048576", str(rng.randint(1, 9))])))
     return chosen + some_parts(rng) + some_outputs(rng, mode)
 
 
@@ -32,7 +37,7 @@ def some_parts(rng):
 
 def some_outputs(rng, mode):
     """The options that say what is written and where."""
-    sums = mode not in ("pattern", "colors", "mesh")
+    sums = mode not in ("pattern", "colors", "mesh", "product", "marks")
     if sums and rng.random() < 0.2:
         return [("--summary", None)]
     outputs = []
@@ -77,9 +82,10 @@ EXTRA = [["--fast"], ["--help"], ["--version"], ["--"], ["-"], ["x"], [""], ["--
          ["--digits=000000000000000000001"], ["--digits=99999999999999999999"], ["--generate=0"], ["--generate=513"],
          ["--seed=18446744073709551616"], ["--seed=1"], ["--summary"], ["--rhs=-"], ["--matrix=-"], ["--mode=ordered"],
          ["--matrix=r.mtx"], ["--rhs=m.mtx"], ["--format=msh"], ["--format=ucd"], ["--format", "MSH"], ["--format=avs"], ["--format="],
-         ["--subdomain=1"], ["--subdomain=4294967296"],
-         ["--subdomain=00000000001"], ["--subdomain", "-1"], ["--subdomain="], ["--ghost=once"], ["--ghost=all"], ["--ghost=none"],
-         ["--ghost-cells"], ["--ghost-cells", "x"], ["--ghost-cells="], ["--mode=mesh"], ["--mode=product"], ["--problem=-"], ["--mesh=-"], ["--workers=00000000000000000004"]]
+         ["--subdomain=1"], ["--subdomain=4294967296"], ["--subdomain=00000000001"], ["--subdomain", "-1"], ["--subdomain="],
+         ["--ghost=once"], ["--ghost=all"], ["--ghost=none"], ["--ghost-cells"], ["--ghost-cells", "x"], ["--ghost-cells="],
+         ["--mode=mesh"], ["--mode=product"], ["--mode=marks"], ["--mode=adapt"], ["--vector=vector.mtx"], ["--vector=-"],
+         ["--mark=1"], ["--mark=0"], ["--mark=1048577"], ["--problem=-"], ["--mesh=-"], ["--workers=00000000000000000004"]]
 
 
 def spelled_words(rng, settings):
@@ -95,10 +101,13 @@ def spelled_words(rng, settings):
     return words
 
 
-def random_words(rng, faults, msh=0.3):
-    """Words, and the name of the text that standard input gives or None; `msh` is how likely the mesh is in MSH."""
+def random_words(rng, faults, msh=0.3, vectors=0.0):
+    """Words, and the name of the text that standard input gives or None; `msh` is how likely the mesh is in MSH, and `vectors` how
+    likely the mode is one that takes a vector."""
     sources, given = some_sources(rng, msh)
-    settings = some_settings(rng) + sources
+    settings = some_settings(rng, vectors) + sources
+    if given is None and ("--vector", "vector.mtx") in settings and rng.random() < 0.15:
+        settings[settings.index(("--vector", "vector.mtx"))], given = ("--vector", "-"), "vector.mtx"
     rng.shuffle(settings)
     words = spelled_words(rng, settings)
     for _ in range(faults):

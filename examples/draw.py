@@ -176,6 +176,12 @@ def centre(mesh, corners):
     return mean([mesh.points[name] for name in corners])
 
 
+def label_cell(picture, mesh, corners, number):
+    """Puts a number into a cell, where there are so few cells that it can be read."""
+    if len(mesh.cells) < 150:
+        picture.label(centre(mesh, corners), number, 8 if len(mesh.cells) < 100 else 4)
+
+
 def draw_mesh(mesh, problem):
     """Cells by material with their numbers, boundary faces by what the problem says of their id, hanging nodes."""
     kinds = {int(row[1]): row[0] for row in problem if row[0] in ("robin", "dirichlet")}
@@ -184,7 +190,7 @@ def draw_mesh(mesh, problem):
     for number, (material, corners) in enumerate(mesh.active()):
         fill = FILLS[materials.index(material) % len(FILLS)]
         picture.polygon([mesh.points[corners[k]] for k in AROUND], fill)
-        picture.label(centre(mesh, corners), number, 8 if len(mesh.cells) < 100 else 4)
+        label_cell(picture, mesh, corners, number)
     for (a, b), number in mesh.boundary():
         picture.line(mesh.points[a], mesh.points[b], EDGES[kinds.get(number, "")])
     for name in mesh.dofs():
@@ -201,7 +207,7 @@ def draw_colors(mesh, output):
     picture = Picture(mesh.points.values())
     for (_, corners), (_, _, color) in zip(mesh.active(), rows):
         picture.polygon([mesh.points[corners[k]] for k in AROUND], FILLS[color % len(FILLS)])
-        picture.label(centre(mesh, corners), color, 8 if len(mesh.cells) < 100 else 4)
+        label_cell(picture, mesh, corners, color)
     return picture.text()
 
 

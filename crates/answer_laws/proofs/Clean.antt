@@ -3,12 +3,11 @@ use Rattle.std.proofs.Common.{◌≡◌, ◌≢◌, ◌∙◌, ap, sym, refl, �
 use Rattle.std.specs.Prelude.{Ok, Err}
 use Rattle.std.specs.declared.result.Result.{Result}
 use Rattle.fem_text.specs.declared.counts.Counts.{Counts}
-use Rattle.run_words.specs.declared.options.Mode.{Mode}
-use Rattle.run_words.specs.Choice.{Destination, standard, named}
+use Rattle.run_words.specs.Choice.{Mode, Destination, standard, named}
 use Rattle.run_outputs.specs.Targets.{World, after_targets}
 use Rattle.run_outputs.specs.Stops.{StandsInPart}
 use Rattle.diagnostics.specs.declared.refusal.Refusal.{Refusal}
-use Rattle.diagnostics.specs.declared.refusal.Refusal.TheVariants.{Words, MeshText, ProblemText, Mesh, Constraint, Local, Sum, Limit, Absent}
+use Rattle.diagnostics.specs.declared.refusal.Refusal.TheVariants.{Words, MeshText, ProblemText, Mesh, Constraint, Local, Sum, Limit, Vector, Product, Absent}
 use Rattle.diagnostics.specs.declared.ending.Ending.{Ending}
 use Rattle.diagnostics.specs.declared.ending.Ending.TheVariants as endings
 use Rattle.diagnostics.specs.Lines.{status_of}
@@ -26,6 +25,8 @@ not_outside (Constraint kind place) = (λ e. cc, λ e. cc)
 not_outside (Local cell fault) = (λ e. cc, λ e. cc)
 not_outside (Sum cell row) = (λ e. cc, λ e. cc)
 not_outside (Limit kind) = (λ e. cc, λ e. cc)
+not_outside (Vector fault) = (λ e. cc, λ e. cc)
+not_outside (Product cell) = (λ e. cc, λ e. cc)
 not_outside (Absent role) = (λ e. cc, λ e. cc)
 
 failed_last : (counts : Counts) (last : Bool) → counts.failed_last ≡ last → counts.failed_last ≡ false → last ≡ true → ⊥
@@ -42,7 +43,7 @@ not_stopped takes words before now well (Err (endings.Refused refusal)) leaves =
 not_stopped takes words before now well (Err (endings.ReadFault role)) leaves =
     absurd (failed_last now.world.store true (ap (λ (c : Counts). c.failed_last) leaves.reads) well.0 refl)
 not_stopped takes words before now well (Err (endings.WriteFault output)) leaves =
-    absurd (in_part (after_targets (run.after_source before.world leaves.choice.source) leaves.stops.whole) now.world leaves.stops.target.destination leaves.stops.target.text leaves.stops.stops.1 well.0 well.1)
+    absurd (in_part (after_targets (run.after_choice before.world leaves.choice) leaves.stops.whole) now.world leaves.stops.target.destination leaves.stops.target.text leaves.stops.stops.1 well.0 well.1)
 not_stopped takes words before now well (Err endings.NoMemory) leaves = (λ e. cc, λ e. cc)
 
 pub faults_stop_runs : FaultsStopRuns

@@ -4,15 +4,15 @@ use Rattle.std.specs.Prelude.{Ok, Err}
 use Rattle.std.specs.declared.result.Result.{Result}
 use Rattle.fem_text.specs.Counts.{one_more, pieces, Rose}
 use Rattle.fem_text.proofs.Counted.{good_faults, fault_rose, one_fault}
-use Rattle.run_words.specs.declared.options.Mode.{Mode}
-use Rattle.run_words.specs.Choice.{Destination, standard, named}
-use Rattle.run_texts.specs.Read.{names_in, reads_before}
+use Rattle.run_words.specs.Choice.{Mode, Destination, standard, named}
+use Rattle.run_texts.specs.Read.{reads_before}
+use Rattle.run_targets.specs.Reads.{reads_in}
 use Rattle.run_outputs.specs.Targets.{Target, World, after_text, after_target, after_targets}
 use Rattle.run_outputs.specs.Stops.{StandsInPart}
 use Rattle.diagnostics.specs.declared.ending.Ending.{Ending}
 use Rattle.diagnostics.specs.declared.ending.Ending.TheVariants as endings
 use Rattle.assemble_core.specs.Run as run
-use Rattle.assemble_core.specs.Run.{Outside, Leaves, after_source}
+use Rattle.assemble_core.specs.Run.{Outside, Leaves, after_choice}
 use Rattle.answer_laws.specs.Runs.{IsOfReads, IsOfOutside, NoCountRose, DefinedTextsAreWritten, DefinedRefusalsAreTold, RunsAreComplete, answer_status}
 use Rattle.answer_laws.proofs.Clean.{not_outside}
 
@@ -45,12 +45,12 @@ not_stopped : (takes : Mode → Bool) (words : List (List ℕ)) (before now : Ou
 not_stopped takes words before now none (Ok unit) leaves = (λ e. cc, λ e. cc)
 not_stopped takes words before now none (Err (endings.Refused refusal)) leaves = not_outside refusal
 not_stopped takes words before now none (Err (endings.ReadFault role)) leaves =
-    let rose : Rose before.world.store now.world.store = fault_rose before.world.store now.world.store (reads_before role, leaves.reads) in
+    let rose : Rose before.world.store now.world.store = fault_rose before.world.store now.world.store (reads_before leaves.choice.source role, leaves.reads) in
     stays before.world.store.faults now.world.store.faults rose none.store none.store_may
 not_stopped takes words before now none (Err (endings.WriteFault output)) leaves =
-    let start : World = after_source before.world leaves.choice.source in
+    let start : World = after_choice before.world leaves.choice in
     let whole : World = after_targets start leaves.stops.whole in
-    let read = good_faults (names_in leaves.choice.source) before.world.store in
+    let read = good_faults (reads_in leaves.choice) before.world.store in
     let wrote = texts_leave start leaves.stops.whole in
     let store : whole.store.faults ≡ before.world.store.faults = wrote.0 ∙ read in
     let out : whole.out.faults ≡ before.world.out.faults = wrote.1 in

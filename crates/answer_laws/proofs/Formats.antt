@@ -1,5 +1,5 @@
 -- Words on one mesh have the same answer, in whatever format it stands.
-use Rattle.std.proofs.Common.{◌≡◌, ◌∙◌, sym, ap, refl, subst, ℕ, List, Bool, true}
+use Rattle.std.proofs.Common.{◌≡◌, ◌∙◌, sym, ap, refl, subst, ℕ, ℤ, List, Bool, true}
 use Rattle.std.specs.Prelude.{Some, None, Ok, Err}
 use Rattle.std.specs.declared.option.Option.{Option}
 use Rattle.std.specs.declared.result.Result.{Result}
@@ -7,17 +7,17 @@ use Rattle.fem_fixed.specs.Mesh.{Mesh}
 use Rattle.fem_text.specs.Outside.{Held}
 use Rattle.fem_text.proofs.OneReading.{ok_same, ok_err}
 use Rattle.problem_read.specs.Entries.{ProblemParts}
-use Rattle.run_words.specs.declared.options.Mode.{Mode}
-use Rattle.run_words.specs.declared.options.Mode.TheVariants as modes
 use Rattle.run_words.specs.declared.options.Format.{Format}
-use Rattle.run_words.specs.Choice.{Choice, Source, texts, generated}
+use Rattle.run_words.specs.Choice.{Mode, of_system, of_mesh, of_vector, vector_in, Choice, Source, texts, generated}
+use Rattle.run_words.specs.declared.options.VectorTask.{VectorTask}
+use Rattle.run_words.specs.declared.options.VectorTask.TheVariants as tasks
 use Rattle.run_words.specs.Words.{AskFor}
 use Rattle.run_outputs.specs.Targets.{Target}
 use Rattle.run_texts.specs.Texts.{Texts, ProblemStands, MeshOf, ProblemOf, ReadTexts}
-use Rattle.run_texts.specs.Read.{MeshUnder, SourceRead}
+use Rattle.run_texts.specs.Read.{MeshUnder, SourceRead, VectorUnder}
 use Rattle.diagnostics.specs.declared.refusal.Refusal.{Refusal}
 use Rattle.diagnostics.specs.Stages.{Then, stops, goes}
-use Rattle.run_targets.specs.Defines.{Made, Defines}
+use Rattle.run_targets.specs.Defines.{VectorMade, VectorTexts, Made, Defines}
 use Rattle.assemble_core.specs.Answer.{Answers}
 use Rattle.assemble_core.specs.Run.{Outside}
 use Rattle.answer_laws.specs.Parts.{HaveOneMesh}
@@ -30,7 +30,10 @@ problem_name (texts mesh format problem) = problem
 problem_name (generated n seed) = None
 
 -- what stands under the name of the problem is the same in both stores
-problem_alike : (held also : Held) (mesh : List ℕ) (format : Format) (problem known : Option (List ℕ)) → HoldAlike held also (texts mesh format problem) →
+abbrev SourceAlike : Held → Held → Source → Type 0
+SourceAlike held also source = (name : List ℕ) → ReadsAlso source name → held name ≡ also name
+
+problem_alike : (held also : Held) (mesh : List ℕ) (format : Format) (problem known : Option (List ℕ)) → SourceAlike held also (texts mesh format problem) →
     ProblemStands (Some held) problem known → ProblemStands (Some also) problem known
 problem_alike held also mesh format None known hold stands = stands
 problem_alike held also mesh format (Some name) known hold stands = stands ∙ hold name refl
@@ -39,14 +42,46 @@ problem_alike held also mesh format (Some name) known hold stands = stands ∙ h
 abbrev Behind : Option (List ℕ) → Mesh → Result (Mesh × ProblemParts) Refusal → Type 0
 Behind known mesh = Then (ProblemOf known) (λ problem outcome. outcome ≡ Ok (mesh, problem))
 
--- what a mode makes doesn't depend on the source
-without_source : (mode : Mode) (choice : Choice) (read : Mesh × ProblemParts) (answer : Result (List Target) Refusal) → Made mode choice read answer → Made mode (all_but_mesh_text choice) read answer
-without_source (modes.System mode) choice read answer made = made
-without_source modes.Mesh choice read answer made = made
+-- what is made of a vector doesn't depend on the source
+vector_without_source : (task : VectorTask) (choice : Choice) (read : Mesh × ProblemParts) (values : List ℤ) (answer : Result (List Target) Refusal) → VectorMade task choice read values answer →
+    VectorMade task (all_but_mesh_text choice) read values answer
+vector_without_source tasks.Product choice read values answer made = made
+vector_without_source (tasks.Marks count) choice read values answer made = made
+vector_without_source (tasks.Adapt count) choice read values answer made = made
 
-with_source : (mode : Mode) (choice : Choice) (read : Mesh × ProblemParts) (answer : Result (List Target) Refusal) → Made mode (all_but_mesh_text choice) read answer → Made mode choice read answer
-with_source (modes.System mode) choice read answer made = made
-with_source modes.Mesh choice read answer made = made
+vector_with_source : (task : VectorTask) (choice : Choice) (read : Mesh × ProblemParts) (values : List ℤ) (answer : Result (List Target) Refusal) →
+    VectorMade task (all_but_mesh_text choice) read values answer → VectorMade task choice read values answer
+vector_with_source tasks.Product choice read values answer made = made
+vector_with_source (tasks.Marks count) choice read values answer made = made
+vector_with_source (tasks.Adapt count) choice read values answer made = made
+
+-- the vector under a name that both stores hold alike
+vector_alike : (held also : Held) (name : List ℕ) (outcome : Result (List ℤ) Refusal) → held name ≡ also name → VectorUnder (Some held) name outcome → VectorUnder (Some also) name outcome
+vector_alike held also name outcome same (known, stands, is) = (known, stands ∙ same, is)
+
+texts_alike : (held also : Held) (name : List ℕ) (task : VectorTask) (choice other : Choice) (read : Mesh × ProblemParts) (answer : Result (List Target) Refusal) → held name ≡ also name →
+    ((values : List ℤ) → VectorMade task choice read values answer → VectorMade task other read values answer) → VectorTexts (Some held) name task choice read answer →
+    VectorTexts (Some also) name task other read answer
+texts_alike held also name task choice other read answer same more (stops refusal is e) = stops refusal (vector_alike held also name (Err refusal) same is) e
+texts_alike held also name task choice other read answer same more (goes values is h) = goes values (vector_alike held also name (Ok values) same is) (more values h)
+
+-- what a mode makes doesn't depend on the source, nor on which of two such stores holds the vector
+abbrev VectorAlike : Held → Held → Mode → Type 0
+VectorAlike held also mode = (name : List ℕ) → vector_in mode ≡ Some name → held name ≡ also name
+
+without_source : (held also : Held) (mode : Mode) (choice : Choice) (read : Mesh × ProblemParts) (answer : Result (List Target) Refusal) → VectorAlike held also mode →
+    Made (Some held) mode choice read answer → Made (Some also) mode (all_but_mesh_text choice) read answer
+without_source held also (of_system mode) choice read answer hold made = made
+without_source held also of_mesh choice read answer hold made = made
+without_source held also (of_vector name task) choice read answer hold made =
+    texts_alike held also name task choice (all_but_mesh_text choice) read answer (hold name refl) (λ values. vector_without_source task choice read values answer) made
+
+with_source : (also : Held) (mode : Mode) (choice : Choice) (read : Mesh × ProblemParts) (answer : Result (List Target) Refusal) → Made (Some also) mode (all_but_mesh_text choice) read answer →
+    Made (Some also) mode choice read answer
+with_source also (of_system mode) choice read answer made = made
+with_source also of_mesh choice read answer made = made
+with_source also (of_vector name task) choice read answer made =
+    texts_alike also also name task (all_but_mesh_text choice) choice read answer refl (λ values. vector_with_source task choice read values answer) made
 
 -- Words have one choice and mesh texts one reading, as their laws say.
 module _ (one_choice : (words : List (List ℕ)) (first second : Choice) → AskFor words first → AskFor words second → first ≡ second) (one_mesh : HaveOneMesh) where
@@ -58,10 +93,10 @@ module _ (one_choice : (words : List (List ℕ)) (first second : Choice) → Ask
       subst (λ (m : Mesh). Behind known.problem m outcome) (ok_same {K = Refusal} other mesh (one_mesh format known.mesh (Ok other) (Ok mesh) w is)) h
 
   -- what is read of one text is read of the other
-  texts_alike : (held also : Held) (name other : List ℕ) (format another : Format) (problem : Option (List ℕ)) (mesh : Mesh) (outcome : Result (Mesh × ProblemParts) Refusal) →
-      HoldAlike held also (texts name format problem) → MeshUnder (Some held) name format (Ok mesh) → MeshUnder (Some also) other another (Ok mesh) →
+  both_alike : (held also : Held) (name other : List ℕ) (format another : Format) (problem : Option (List ℕ)) (mesh : Mesh) (outcome : Result (Mesh × ProblemParts) Refusal) →
+      SourceAlike held also (texts name format problem) → MeshUnder (Some held) name format (Ok mesh) → MeshUnder (Some also) other another (Ok mesh) →
       SourceRead (Some held) (texts name format problem) outcome → SourceRead (Some also) (texts other another problem) outcome
-  texts_alike held also name other format another problem mesh outcome hold (own, stands, is) (its, also_stands, also_is) (known, (mesh_stands, problem_stands), read) =
+  both_alike held also name other format another problem mesh outcome hold (own, stands, is) (its, also_stands, also_is) (known, (mesh_stands, problem_stands), read) =
       let P : Option (List ℕ) → Type 0 = λ text. MeshOf format text (Ok mesh) in
       let there : MeshOf format known.mesh (Ok mesh) = subst P (stands ∙ sym mesh_stands) is in (
         record { mesh = its; problem = known.problem },
@@ -70,7 +105,7 @@ module _ (one_choice : (words : List (List ℕ)) (first second : Choice) → Ask
       )
 
   source_alike : (held also : Held) (source other : Source) (name another : List ℕ) (format its : Format) (problem problems : Option (List ℕ)) (mesh : Mesh)
-      (outcome : Result (Mesh × ProblemParts) Refusal) → without_mesh_text source ≡ without_mesh_text other → HoldAlike held also source → source ≡ texts name format problem →
+      (outcome : Result (Mesh × ProblemParts) Refusal) → without_mesh_text source ≡ without_mesh_text other → SourceAlike held also source → source ≡ texts name format problem →
       other ≡ texts another its problems → MeshUnder (Some held) name format (Ok mesh) → MeshUnder (Some also) another its (Ok mesh) → SourceRead (Some held) source outcome →
       SourceRead (Some also) other outcome
   source_alike held also source other name another format its problem problems mesh outcome alike hold is other_is m n read =
@@ -78,26 +113,27 @@ module _ (one_choice : (words : List (List ℕ)) (first second : Choice) → Ask
       let P : Option (List ℕ) → Type 0 = λ p. SourceRead (Some also) (texts another its p) outcome in
       subst (λ s. SourceRead (Some also) s outcome) (sym other_is)
       (subst P same
-      (texts_alike held also name another format its problem mesh outcome (subst (HoldAlike held also) is hold) m n (subst (λ s. SourceRead (Some held) s outcome) is read)))
+      (both_alike held also name another format its problem mesh outcome (subst (SourceAlike held also) is hold) m n (subst (λ s. SourceRead (Some held) s outcome) is read)))
 
   -- what is made doesn't depend on the mesh text
-  made_alike : (choice other : Choice) (read : Mesh × ProblemParts) (answer : Result (List Target) Refusal) → AreAlike choice other → Made choice.mode choice read answer → Made other.mode other read answer
-  made_alike choice other read answer alike made =
-      with_source other.mode other read answer (subst (λ (c : Choice). Made c.mode c read answer) alike (without_source choice.mode choice read answer made))
+  made_alike : (held also : Held) (choice other : Choice) (read : Mesh × ProblemParts) (answer : Result (List Target) Refusal) → AreAlike choice other → VectorAlike held also choice.mode →
+      Made (Some held) choice.mode choice read answer → Made (Some also) other.mode other read answer
+  made_alike held also choice other read answer alike hold made =
+      with_source also other.mode other read answer (subst (λ (c : Choice). Made (Some also) c.mode c read answer) alike (without_source held also choice.mode choice read answer hold made))
 
   defined_alike : (words another : List (List ℕ)) (held also : Held) (choice other : Choice) (mesh : Mesh) (answer : Result (List Target) Refusal) → AskOnMesh words held choice mesh →
-      AskOnMesh another also other mesh → AreAlike choice other → HoldAlike held also choice.source → Defines (Some held) choice answer → Defines (Some also) other answer
+      AskOnMesh another also other mesh → AreAlike choice other → HoldAlike held also choice → Defines (Some held) choice answer → Defines (Some also) other answer
   defined_alike words another held also choice other mesh answer a b alike hold (stops refusal read e) =
       stops refusal
-      (source_alike held also choice.source other.source a.name b.name a.format b.format a.problem b.problem mesh (Err refusal) (ap (λ (c : Choice). c.source) alike) hold a.source_is b.source_is
+      (source_alike held also choice.source other.source a.name b.name a.format b.format a.problem b.problem mesh (Err refusal) (ap (λ (c : Choice). c.source) alike) hold.source a.source_is b.source_is
       a.mesh_is b.mesh_is read) e
   defined_alike words another held also choice other mesh answer a b alike hold (goes pair read made) =
       goes pair
-      (source_alike held also choice.source other.source a.name b.name a.format b.format a.problem b.problem mesh (Ok pair) (ap (λ (c : Choice). c.source) alike) hold a.source_is b.source_is
-      a.mesh_is b.mesh_is read) (made_alike choice other pair answer alike made)
+      (source_alike held also choice.source other.source a.name b.name a.format b.format a.problem b.problem mesh (Ok pair) (ap (λ (c : Choice). c.source) alike) hold.source a.source_is b.source_is
+      a.mesh_is b.mesh_is read) (made_alike held also choice other pair answer alike hold.vector made)
 
   answered_alike : (takes : Mode → Bool) (words another : List (List ℕ)) (held also : Held) (choice other : Choice) (mesh : Mesh) (answer : Result (List Target) Refusal) →
-      AskOnMesh words held choice mesh → AskOnMesh another also other mesh → AreAlike choice other → HoldAlike held also choice.source →
+      AskOnMesh words held choice mesh → AskOnMesh another also other mesh → AreAlike choice other → HoldAlike held also choice →
       Answers takes words (Some held) answer → Answers takes another (Some also) answer
   answered_alike takes words another held also choice other mesh answer a b alike hold (stops refusal refused e) =
       let mode : takes choice.mode ≡ takes other.mode = ap (λ (c : Choice). takes c.mode) alike in
@@ -108,25 +144,28 @@ module _ (one_choice : (words : List (List ℕ)) (first second : Choice) → Ask
       goes other (b.asks, taken) (defined_alike words another held also choice other mesh answer a b alike hold (subst (λ (d : Choice). Defines (Some held) d answer) same defines))
 
   -- the same names are read of the other choice
-  hold_back : (held also : Held) (source other : Source) → without_mesh_text source ≡ without_mesh_text other → HoldAlike held also source → HoldAlike also held other
-  hold_back held also source other alike hold name reads = sym (hold name (also_read source other alike name reads))
-    where
-      read_as : (source : Source) (name : List ℕ) → ReadsAlso source name → ReadsAlso (without_mesh_text source) name
-      read_as (texts mesh format problem) name reads = reads
-      read_as (generated n seed) name reads = reads
+  read_as : (source : Source) (name : List ℕ) → ReadsAlso source name → ReadsAlso (without_mesh_text source) name
+  read_as (texts mesh format problem) name reads = reads
+  read_as (generated n seed) name reads = reads
 
-      read_from : (source : Source) (name : List ℕ) → ReadsAlso (without_mesh_text source) name → ReadsAlso source name
-      read_from (texts mesh format problem) name reads = reads
-      read_from (generated n seed) name reads = reads
+  read_from : (source : Source) (name : List ℕ) → ReadsAlso (without_mesh_text source) name → ReadsAlso source name
+  read_from (texts mesh format problem) name reads = reads
+  read_from (generated n seed) name reads = reads
 
-      also_read : (source other : Source) → without_mesh_text source ≡ without_mesh_text other → (name : List ℕ) → ReadsAlso other name → ReadsAlso source name
-      also_read source other alike name reads = read_from source name (subst (λ s. ReadsAlso s name) (sym alike) (read_as other name reads))
+  also_read : (source other : Source) → without_mesh_text source ≡ without_mesh_text other → (name : List ℕ) → ReadsAlso other name → ReadsAlso source name
+  also_read source other alike name reads = read_from source name (subst (λ s. ReadsAlso s name) (sym alike) (read_as other name reads))
+
+  hold_back : (held also : Held) (choice other : Choice) → AreAlike choice other → HoldAlike held also choice → HoldAlike also held other
+  hold_back held also choice other alike hold = record {
+    source = λ name reads. sym (hold.source name (also_read choice.source other.source (ap (λ (c : Choice). c.source) alike) name reads));
+    vector = λ name reads. sym (hold.vector name (ap (λ (c : Choice). vector_in c.mode) alike ∙ reads));
+  }
 
   pub one_answer : FormatsHaveOneAnswer
   one_answer takes words another held also is answer = (
     answered_alike takes words another held also is.choice is.other_choice is.mesh answer is.first is.second is.alike is.hold,
     answered_alike takes another words also held is.other_choice is.choice is.mesh answer is.second is.first (sym is.alike)
-        (hold_back held also is.choice.source is.other_choice.source (ap (λ (c : Choice). c.source) is.alike) is.hold),
+        (hold_back held also is.choice is.other_choice is.alike is.hold),
   )
 
 told : (takes : Mode → Bool) (words : List (List ℕ)) (held : Held) (before : Outside) → before.world.holds ≡ Some held → AreTold takes words before.world.holds

@@ -1,11 +1,13 @@
 -- A source whose texts are known has one mesh and one problem.
-use Rattle.std.proofs.Common.{◌≡◌, ◌∙◌, sym, ap, subst, ℕ, ◌<◌, ◌≤◌, List, length, arith}
+use Rattle.std.proofs.Common.{◌≡◌, ◌∙◌, sym, ap, subst, ℕ, ℤ, ◌<◌, ◌≤◌, List, length, arith}
 use Rattle.std.specs.Prelude.{Some, None, Ok, Err}
 use Rattle.std.specs.declared.option.Option.{Option}
 use Rattle.std.specs.declared.result.Result.{Result}
 use Rattle.std.proofs.lemmas.Option.{same_Some}
 use Rattle.fem_text.specs.declared.fault.TextFault.{TextFault}
 use Rattle.fem_fixed.specs.Mesh.{Mesh}
+use Rattle.matrix_market.specs.declared.fault.MarketKind.{MarketKind}
+use Rattle.matrix_market.specs.Market.{VectorText, VectorFaultAt}
 use Rattle.ucd_read.specs.declared.fault.UcdKind.{UcdKind}
 use Rattle.ucd_read.specs.Faults.{UcdFault}
 use Rattle.ucd_read.specs.Ucd.{Ucd, UcdFaultAt}
@@ -21,10 +23,10 @@ use Rattle.problem_read.specs.Problem.{ProblemText, ProblemFaultAt}
 use Rattle.diagnostics.specs.declared.refusal.Refusal.{Refusal}
 use Rattle.diagnostics.specs.declared.ending.Role.{Role}
 use Rattle.diagnostics.specs.declared.ending.Role.TheVariants as roles
-use Rattle.run_texts.specs.Endings.{of_ucd, of_msh, of_problem_text}
+use Rattle.run_texts.specs.Endings.{of_ucd, of_msh, of_problem_text, of_vector_text}
 use Rattle.diagnostics.specs.Stages.{Then}
-use Rattle.run_texts.specs.Texts.{Texts, text_limit, TextFor, UcdMesh, MshMesh, MeshIn, ProblemIn, MeshOf, ProblemOf, ReadTexts}
-use Rattle.answer_laws.specs.Parts.{HaveOneMesh, HaveOneReading}
+use Rattle.run_texts.specs.Texts.{Texts, text_limit, TextFor, UcdMesh, MshMesh, MeshIn, ProblemIn, VectorIn, MeshOf, ProblemOf, ReadTexts}
+use Rattle.answer_laws.specs.Parts.{HaveOneMesh, HaveOneVector, HaveOneReading}
 use Rattle.answer_laws.proofs.Steps.{Agree, one_after, one_said}
 
 not_some : {A P : Type 0} (a : A) → ◌≡◌ {A = Option A} None (Some a) → P
@@ -111,3 +113,20 @@ module _ (one_mesh : HaveOneMesh)
   one_read holds source known a b h k =
       let P : Texts → Type 0 = λ both. ReadTexts (source_format source) both a in
       one_read_texts (source_format source) k.0 a b (subst P (known h.0 k.0 h.1 k.1) h.2) k.2
+
+-- So has the text of a vector.
+module _ (one_values : (text : List ℕ) (first second : List ℤ) → VectorText text first → VectorText text second → first ≡ second)
+    (vector_fault : (text : List ℕ) (kind other : MarketKind) (line another : ℕ) → VectorFaultAt text kind line → VectorFaultAt text other another → (kind ≡ other) × (line ≡ another))
+    (vector_no_fault : (text : List ℕ) (values : List ℤ) (kind : MarketKind) (line : ℕ) → VectorText text values → VectorFaultAt text kind line → ⊥) where
+  same_vector_end : (text : List ℕ) (f g : TextFault MarketKind) → VectorFaultAt text f.kind f.line → VectorFaultAt text g.kind g.line → of_vector_text f.kind f.line ≡ of_vector_text g.kind g.line
+  same_vector_end text f g h k = (let s = vector_fault text f.kind g.kind f.line g.line h k in λ i. of_vector_text (s.0 i) (s.1 i))
+
+  one_vector_in : (text : List ℕ) → Agree (VectorIn text) (VectorIn text)
+  one_vector_in text (Ok p) (Ok q) h k = ap Ok (one_values text p q h k)
+  one_vector_in text (Ok p) (Err q) h k = absurd (vector_no_fault text p k.0.kind k.0.line h k.1)
+  one_vector_in text (Err r) (Ok q) h k = absurd (vector_no_fault text q h.0.kind h.0.line k h.1)
+  one_vector_in text (Err r) (Err q) h k =
+      ap Err (one_said (λ (f : TextFault MarketKind). of_vector_text f.kind f.line) (λ (f : TextFault MarketKind). VectorFaultAt text f.kind f.line) (same_vector_end text) r q h k)
+
+  pub one_vector_of : HaveOneVector
+  one_vector_of known = one_after (TextFor roles.Vector known) (TextFor roles.Vector known) VectorIn VectorIn (one_text roles.Vector known) (λ text is. one_vector_in text)

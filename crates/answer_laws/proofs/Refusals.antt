@@ -1,5 +1,5 @@
 -- Status 2 is that of words that are refused: no other step of the work refuses words.
-use Rattle.std.proofs.Common.{◌≡◌, ◌≢◌, ◌∙◌, inl, inr, sym, ap, refl, ℕ, List, Bool}
+use Rattle.std.proofs.Common.{◌≡◌, ◌≢◌, ◌∙◌, inl, inr, sym, ap, refl, ℕ, ℤ, ◌^◌, List, Bool}
 use Rattle.std.specs.Prelude.{Some, None, Ok, Err}
 use Rattle.std.specs.declared.option.Option.{Option}
 use Rattle.std.specs.declared.result.Result.{Result}
@@ -33,31 +33,43 @@ use Rattle.affine_constraints.specs.Lines.{AffineLine}
 use Rattle.sparsity.specs.declared.rows.Row.{Row}
 use Rattle.mesh_visits.specs.declared.flags.Flags.{Flags}
 use Rattle.mesh_loop.specs.Setup.{MeshProblem}
-use Rattle.run_words.specs.declared.options.Mode.{Mode}
-use Rattle.run_words.specs.declared.options.Mode.TheVariants as modes
 use Rattle.run_words.specs.declared.options.SystemMode.{SystemMode}
+use Rattle.run_words.specs.declared.options.SystemMode.TheVariants as systems
+use Rattle.run_words.specs.declared.options.VectorTask.{VectorTask}
+use Rattle.run_words.specs.declared.options.VectorTask.TheVariants as tasks
+use Rattle.constrained_mesh.specs.MeshLines.{dof_count}
+use Rattle.matrix_market.specs.declared.fault.MarketKind.{MarketKind}
+use Rattle.matrix_market.specs.declared.fault.MarketKind.TheVariants as market
+use Rattle.matrix_free.specs.declared.fault.ApplyFault.{ApplyFault}
+use Rattle.matrix_free.specs.declared.fault.ApplyFault.TheVariants as products
+use Rattle.jump_refine.specs.declared.fault.IndicatorFault.{IndicatorFault}
+use Rattle.jump_refine.specs.declared.fault.IndicatorFault.TheVariants as indicators
+use Rattle.vector_texts.specs.Endings.{of_product, of_indicators}
+use Rattle.vector_texts.specs.Fitting.{by_length, by_value, FittedTo}
+use Rattle.vector_texts.specs.Product.{ProductOf, ProductText, ProductTexts}
+use Rattle.vector_texts.specs.Marks.{Marks, Indicated, MarkedOn, MarksText}
 use Rattle.run_words.specs.declared.options.Format.{Format}
 use Rattle.run_words.specs.declared.options.Format.TheVariants as formats
-use Rattle.run_words.specs.Choice.{Choice, Output, Source, source_format}
+use Rattle.run_words.specs.Choice.{Mode, of_system, of_mesh as of_mesh_alone, of_vector, Choice, Output, Source, source_format}
 use Rattle.run_outputs.specs.Targets.{Target}
 use Rattle.diagnostics.specs.declared.ending.Role.{Role}
 use Rattle.diagnostics.specs.declared.ending.Role.TheVariants as roles
 use Rattle.diagnostics.specs.declared.refusal.Refusal.{Refusal}
-use Rattle.diagnostics.specs.declared.refusal.Refusal.TheVariants.{Words, MeshText, ProblemText, Mesh, Constraint, Local, Sum, Limit, Absent}
+use Rattle.diagnostics.specs.declared.refusal.Refusal.TheVariants.{Words, MeshText, ProblemText, Mesh, Constraint, Local, Sum, Limit, Vector, Product, Absent}
 use Rattle.diagnostics.specs.declared.ending.Ending.{Ending}
 use Rattle.diagnostics.specs.declared.ending.Ending.TheVariants as endings
-use Rattle.run_texts.specs.Endings.{of_ucd, of_msh, of_problem_text}
+use Rattle.run_texts.specs.Endings.{of_ucd, of_msh, of_problem_text, of_vector_text}
 use Rattle.system_setup.specs.Endings.{of_mesh, of_refining, of_constraints}
 use Rattle.system_texts.specs.Endings.{of_sum}
 use Rattle.diagnostics.specs.Lines.{status_of}
 use Rattle.diagnostics.specs.Stages.{Then, stops, goes, Says}
-use Rattle.run_texts.specs.Texts.{Texts, TextFor, UcdMesh, MshMesh, MeshIn, ProblemIn, ReadTexts}
-use Rattle.run_texts.specs.Read.{SourceRead}
-use Rattle.system_setup.specs.SetUp.{CoarseOf, RefinedFrom, LinesFor, PatternedFor, IsSetUp}
+use Rattle.run_texts.specs.Texts.{Texts, TextFor, UcdMesh, MshMesh, MeshIn, ProblemIn, VectorIn, ReadTexts}
+use Rattle.run_texts.specs.Read.{SourceRead, VectorUnder}
+use Rattle.system_setup.specs.SetUp.{CoarseOf, RefinedFrom, ForestOf, RefinedFurther, LinesFor, PatternedFor, SetUpOn, IsSetUp}
 use Rattle.system_texts.specs.Sums.{SummedBy, Summed}
 use Rattle.system_texts.specs.Texts.{TextsOf}
 use Rattle.assemble_core.specs.Answer.{AreRefused, Asked, Answers}
-use Rattle.run_targets.specs.Defines.{flags_of, MeshTexts, Assembled, Made, Defines}
+use Rattle.run_targets.specs.Defines.{flags_of, MeshTexts, Assembled, AssembledOn, VectorMade, Made, Defines}
 use Rattle.assemble_core.specs.Run as run
 use Rattle.assemble_core.specs.Run.{Outside, Leaves}
 use Rattle.answer_laws.specs.Runs.{RefusedWordsHaveStatus2}
@@ -136,6 +148,22 @@ sums_keep (sums.Local cell fault) = (λ e. cc)
 sums_keep (sums.Sum cell row) = (λ e. cc)
 sums_keep sums.NoMemory = (λ e. cc)
 
+vector_text_keeps : (kind : MarketKind) (line : ℕ) → of_vector_text kind line ≢ endings.Refused Words
+vector_text_keeps market.Banner line = (λ e. cc)
+vector_text_keeps market.Size line = (λ e. cc)
+vector_text_keeps market.Entry line = (λ e. cc)
+vector_text_keeps market.TooFew line = (λ e. cc)
+vector_text_keeps market.NoMemory line = (λ e. cc)
+
+products_keep : (fault : ApplyFault) → of_product fault ≢ endings.Refused Words
+products_keep (products.Local cell fault) = (λ e. cc)
+products_keep (products.Size cell) = (λ e. cc)
+products_keep products.NoMemory = (λ e. cc)
+
+indicators_keep : (fault : IndicatorFault) → of_indicators fault ≢ endings.Refused Words
+indicators_keep (indicators.Local cell fault) = (λ e. cc)
+indicators_keep indicators.NoMemory = (λ e. cc)
+
 -- the texts
 text_keeps : (role : Role) (known : Option (List ℕ)) → KeepsWords (TextFor role known)
 text_keeps role None refusal is same = (let e : Absent role ≡ Words = sym is ∙ same in cc)
@@ -201,12 +229,63 @@ assembled_keeps mode choice read =
 mesh_texts_keep : (output : Output) (mesh : MeshParts) → KeepsWords (MeshTexts output mesh)
 mesh_texts_keep output mesh refusal is same = cc
 
-made_keeps : (mode : Mode) (choice : Choice) (read : MeshParts × ProblemParts) → KeepsWords (Made mode choice read)
-made_keeps (modes.System mode) choice read = assembled_keeps mode choice read
-made_keeps modes.Mesh choice read = mesh_texts_keep choice.output read.0
+-- the vector
+vector_keeps : (text : List ℕ) → KeepsWords (VectorIn text)
+vector_keeps text refusal is = says_keeps _ _ (λ (fault : TextFault MarketKind). vector_text_keeps fault.kind fault.line) refusal is
+
+under_keeps : (holds : Option Held) (name : List ℕ) → KeepsWords (VectorUnder holds name)
+under_keeps holds name refusal (known, stands, is) = then_keeps (TextFor roles.Vector known) VectorIn (text_keeps roles.Vector known) vector_keeps refusal is
+
+fitted_keeps : (size limit : ℕ) (values : List ℤ) → KeepsWords (FittedTo size limit values)
+fitted_keeps size limit values refusal (by_length other is) same = (let e : Vector _ ≡ Words = sym is ∙ same in cc)
+fitted_keeps size limit values refusal (by_value many place large is) same = (let e : Vector _ ≡ Words = sym is ∙ same in cc)
+
+product_keeps : (s : MeshProblem) (x : List ℤ) → KeepsWords (ProductOf s x)
+product_keeps s x refusal (c, of, is) = says_keeps _ _ products_keep refusal is
+
+product_text_keeps : (output : Output) (list : List ℤ) → KeepsWords (ProductText output list)
+product_text_keeps output list refusal is same = cc
+
+product_texts_keep : (output : Output) (values : List ℤ) (s : MeshProblem) → KeepsWords (ProductTexts output values s)
+product_texts_keep output values s = then_keeps _ _ (fitted_keeps s.given.dofs.size (2 ^ 20) values) (λ x. then_keeps _ _ (product_keeps s x) (product_text_keeps output))
+
+indicated_keeps : (forest : RefinedMesh) (x : List ℤ) → KeepsWords (Indicated forest x)
+indicated_keeps forest x refusal (dofs, function, is) = says_keeps _ _ indicators_keep refusal is
+
+marked_keeps : (count : ℕ) (values : List ℤ) (forest : RefinedMesh) → KeepsWords (MarkedOn count values forest)
+marked_keeps count values forest = then_keeps _ _ (fitted_keeps (dof_count 1 forest) (2 ^ 31) values) (λ x. then_keeps _ _ (indicated_keeps forest x) (λ etas refusal none same. none))
+
+marks_text_keeps : (output : Output) (marks : Marks) → KeepsWords (MarksText output marks)
+marks_text_keeps output marks refusal is same = cc
+
+further_keeps : (forest : RefinedMesh) (cells : List ℕ) → KeepsWords (RefinedFurther forest cells)
+further_keeps forest cells refusal is = says_keeps _ _ refining_keeps refusal is
+
+forest_keeps : (parts : MeshParts) (problem : ProblemParts) → KeepsWords (ForestOf parts problem)
+forest_keeps parts problem = then_keeps _ _ (coarse_mesh_keeps parts.points parts.quads parts.lines) (λ mesh. refined_keeps mesh problem)
+
+set_up_on_keeps : (flags : Flags) (ids : List ℕ) (problem : ProblemParts) (forest : RefinedMesh) → KeepsWords (SetUpOn flags ids problem forest)
+set_up_on_keeps flags ids problem forest = then_keeps _ _ (lines_keep ids problem forest) (pattern_keeps flags problem forest)
+
+assembled_on_keeps : (choice : Choice) (read : MeshParts × ProblemParts) (forest : RefinedMesh) → KeepsWords (AssembledOn choice read.0.ids read.1 forest)
+assembled_on_keeps choice read forest =
+    then_keeps _ _ (set_up_on_keeps (flags_of choice) read.0.ids read.1 forest) (λ s. then_keeps _ _ (all_sums_keep systems.Serial choice.digits s) (targets_keep systems.Serial choice.output s))
+
+vector_made_keeps : (task : VectorTask) (choice : Choice) (read : MeshParts × ProblemParts) (values : List ℤ) → KeepsWords (VectorMade task choice read values)
+vector_made_keeps tasks.Product choice read values = then_keeps _ _ (set_up_keeps (flags_of choice) read.0 read.1) (product_texts_keep choice.output values)
+vector_made_keeps (tasks.Marks count) choice read values =
+    then_keeps _ _ (forest_keeps read.0 read.1) (λ forest. then_keeps _ _ (marked_keeps count values forest) (marks_text_keeps choice.output))
+vector_made_keeps (tasks.Adapt count) choice read values =
+    then_keeps _ _ (forest_keeps read.0 read.1)
+    (λ forest. then_keeps _ _ (then_keeps _ _ (marked_keeps count values forest) (λ (marks : Marks). further_keeps forest marks.1)) (assembled_on_keeps choice read))
+
+made_keeps : (holds : Option Held) (mode : Mode) (choice : Choice) (read : MeshParts × ProblemParts) → KeepsWords (Made holds mode choice read)
+made_keeps holds (of_system mode) choice read = assembled_keeps mode choice read
+made_keeps holds of_mesh_alone choice read = mesh_texts_keep choice.output read.0
+made_keeps holds (of_vector name task) choice read = then_keeps _ _ (under_keeps holds name) (vector_made_keeps task choice read)
 
 defines_keeps : (holds : Option Held) (choice : Choice) → KeepsWords (Defines holds choice)
-defines_keeps holds choice = then_keeps _ _ (source_keeps holds choice.source) (made_keeps choice.mode choice)
+defines_keeps holds choice = then_keeps _ _ (source_keeps holds choice.source) (made_keeps holds choice.mode choice)
 
 -- of all statuses of refusals, 2 is that of words alone
 two_is_words : (refusal : Refusal) → ◌≡◌ {A = ℕ} (status_of refusal) 2 → refusal ≡ Words
@@ -218,6 +297,8 @@ two_is_words (Constraint kind place) e = cc
 two_is_words (Local cell fault) e = cc
 two_is_words (Sum cell row) e = cc
 two_is_words (Limit kind) e = cc
+two_is_words (Vector fault) e = cc
+two_is_words (Product cell) e = cc
 two_is_words (Absent role) e = cc
 
 -- words that ask for something aren't refused

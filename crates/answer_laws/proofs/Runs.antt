@@ -5,17 +5,17 @@ use Rattle.std.specs.declared.option.Option.{Option}
 use Rattle.std.specs.declared.result.Result.{Result}
 use Rattle.fem_text.specs.Outside.{Held}
 use Rattle.fem_text.proofs.OneReading.{ok_same, err_same, ok_err}
-use Rattle.run_words.specs.declared.options.Mode.{Mode}
+use Rattle.run_words.specs.Choice.{Mode}
 use Rattle.run_outputs.specs.Targets.{Target, after_targets}
 use Rattle.diagnostics.specs.declared.refusal.Refusal.{Refusal}
-use Rattle.diagnostics.specs.declared.refusal.Refusal.TheVariants.{Words, MeshText, ProblemText, Mesh, Constraint, Local, Sum, Limit, Absent}
+use Rattle.diagnostics.specs.declared.refusal.Refusal.TheVariants.{Words, MeshText, ProblemText, Mesh, Constraint, Local, Sum, Limit, Vector, Product, Absent}
 use Rattle.diagnostics.specs.declared.ending.Ending.{Ending}
 use Rattle.diagnostics.specs.declared.ending.Ending.TheVariants as endings
 use Rattle.diagnostics.specs.Lines.{status_of, refusal_line, TookLine}
 use Rattle.diagnostics.specs.Stages.{HasOneOutcome}
 use Rattle.assemble_core.specs.Answer.{Answers}
 use Rattle.assemble_core.specs.Run as run
-use Rattle.assemble_core.specs.Run.{Outside, Leaves, Tells, IsWritten, after_reads, after_source}
+use Rattle.assemble_core.specs.Run.{Outside, Leaves, Tells, IsWritten, after_reads, after_choice}
 use Rattle.answer_laws.specs.Laws.{HaveOneAnswer, HaveOneAnswerWithoutTexts}
 use Rattle.answer_laws.specs.Runs.{AreTold, IsTheAnswer, Wrote, RefusedWith, IsOfReads, IsOfOutside, DefinedTextsAreWritten, DefinedRefusalsAreTold, ZeroTellsTheTexts, OthersTellTheRefusal}
 
@@ -29,6 +29,8 @@ not_zero (Constraint kind place) e = cc
 not_zero (Local cell fault) e = cc
 not_zero (Sum cell row) e = cc
 not_zero (Limit kind) e = cc
+not_zero (Vector fault) e = cc
+not_zero (Product cell) e = cc
 not_zero (Absent role) e = cc
 
 wrote : (takes : Mode → Bool) (words : List (List ℕ)) (before now : Outside) → (w : IsWritten takes words before.world now.world) → Tells before now (Ok tt) → (targets : List Target) →
@@ -36,7 +38,7 @@ wrote : (takes : Mode → Bool) (words : List (List ℕ)) (before now : Outside)
 wrote takes words before now w told targets same = record {
   choice = w.choice;
   asked = w.asked;
-  written = w.written ∙ ap (after_targets (after_source before.world w.choice.source)) same;
+  written = w.written ∙ ap (after_targets (after_choice before.world w.choice)) same;
   told = told.0;
   tells = told.1;
 }

@@ -1,9 +1,14 @@
 -- A source has a mesh and a problem, or a refusal.
-use Rattle.std.proofs.Common.{◌≡◌, ◌⊎◌, inl, inr, sym, ap, refl, subst, ℕ, List, [], length}
+use Rattle.std.proofs.Common.{◌≡◌, ◌⊎◌, inl, inr, sym, ap, refl, subst, ℕ, ℤ, List, [], length}
 use Rattle.std.specs.Prelude.{Some, None, Ok, Err}
 use Rattle.std.specs.declared.option.Option.{Option}
 use Rattle.std.proofs.lemmas.Bool.{cases_lt}
 use Rattle.fem_fixed.specs.Mesh.{Mesh}
+use Rattle.matrix_market.specs.declared.fault.MarketKind.{MarketKind}
+use Rattle.matrix_market.specs.declared.fault.MarketKind.TheVariants as market
+use Rattle.matrix_market.specs.Market.{VectorText, VectorFaultAt}
+use Rattle.diagnostics.specs.declared.kinds.VectorTextKind.TheVariants as vector_texts
+use Rattle.diagnostics.specs.declared.kinds.VectorFault.TheVariants.{Text as Faulty}
 use Rattle.fem_text.specs.Outside.{Held}
 use Rattle.fem_text.specs.declared.fault.TextFault.{TextFault}
 use Rattle.ucd_read.specs.declared.fault.UcdKind.{UcdKind}
@@ -31,11 +36,12 @@ use Rattle.diagnostics.specs.declared.kinds.ProblemTextKind.TheVariants as probl
 use Rattle.diagnostics.specs.declared.ending.Ending.TheVariants.{Refused}
 use Rattle.diagnostics.specs.declared.ending.Role.{Role}
 use Rattle.diagnostics.specs.declared.ending.Role.TheVariants as roles
-use Rattle.run_texts.specs.Endings.{of_ucd, of_msh, of_problem_text}
+use Rattle.run_texts.specs.Endings.{of_ucd, of_msh, of_problem_text, of_vector_text}
 use Rattle.diagnostics.specs.Stages.{Then, stops, goes}
-use Rattle.run_texts.specs.Texts.{Texts, text_limit, size_limit, StandsUnder, ProblemStands, AreTextsOf, TextFor, UcdMesh, MshMesh, MeshIn, ProblemIn, MeshOf, ProblemOf, ReadTexts}
+use Rattle.run_texts.specs.Texts.{Texts, text_limit, size_limit, StandsUnder, ProblemStands, AreTextsOf, TextFor, UcdMesh, MshMesh, MeshIn, ProblemIn, VectorIn, MeshOf, ProblemOf, ReadTexts}
 use Rattle.run_texts.specs.Read.{SourceRead}
 use Rattle.fem_text.proofs.OneReading.{ok_same, ok_err}
+use Rattle.answer_laws.specs.Parts.{HaveAVector}
 use Rattle.answer_laws.proofs.Steps.{HasAnOutcome, some_after}
 
 -- what stands under a name, or the empty text over a store that tells nothing
@@ -158,3 +164,27 @@ module _ (ucd_no_memory : (text : List ℕ) (line : ℕ) → UcdFaultAt text ucd
       let known = some_texts holds source in
       let read = some_read_texts (source_format source) known.0 in
       (read.0, (known.0, known.1, read.1))
+
+vector_refusal : (kind : MarketKind) (line : ℕ) → (kind ≡ market.NoMemory → ⊥) → (refusal : Refusal) × (of_vector_text kind line ≡ Refused refusal)
+vector_refusal market.Banner line some = (refusals.Vector (Faulty vector_texts.Banner line), refl)
+vector_refusal market.Size line some = (refusals.Vector (Faulty vector_texts.Size line), refl)
+vector_refusal market.Entry line some = (refusals.Vector (Faulty vector_texts.Entry line), refl)
+vector_refusal market.TooFew line some = (refusals.Vector (Faulty vector_texts.TooFew line), refl)
+vector_refusal market.NoMemory line some = absurd (some refl)
+
+-- So has the text of a vector.
+module _ (vector_no_memory : (text : List ℕ) (line : ℕ) → VectorFaultAt text market.NoMemory line → ⊥)
+    (vector_or_fault : (text : List ℕ) → ((values : List ℤ) × VectorText text values) ⊎ ((kind : MarketKind) × (line : ℕ) × VectorFaultAt text kind line)) where
+  some_vector_in : (text : List ℕ) → HasAnOutcome (VectorIn text)
+  some_vector_in text = elim (vector_or_fault text) [
+    | inl has ↦ (Ok has.0, has.1)
+    | inr fails ↦ (let said = vector_refusal fails.0 fails.1 (λ none. vector_no_memory text fails.1 (subst (λ (kind : MarketKind). VectorFaultAt text kind fails.1) none fails.2)) in
+        let fault : TextFault MarketKind = record { kind = fails.0; line = fails.1 } in
+        (Err said.0, (fault, fails.2, said.1)))
+  ]
+
+  pub some_vector : HaveAVector
+  some_vector holds name =
+      let known = text_under holds name in
+      let values = some_after (TextFor roles.Vector known.0) VectorIn (some_text roles.Vector known.0) (λ text is. some_vector_in text) in
+      (values.0, (known.0, known.1, values.1))

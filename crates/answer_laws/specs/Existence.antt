@@ -3,7 +3,7 @@ use Rattle.std.specs.Prelude.{ℕ, List, Bool}
 use Rattle.std.specs.declared.option.Option.{Option}
 use Rattle.std.specs.declared.result.Result.{Result}
 use Rattle.fem_text.specs.Outside.{Held}
-use Rattle.run_words.specs.declared.options.Mode.{Mode}
+use Rattle.run_words.specs.Choice.{Mode}
 use Rattle.run_outputs.specs.Targets.{Target}
 use Rattle.diagnostics.specs.declared.refusal.Refusal.{Refusal}
 use Rattle.assemble_core.specs.Answer.{Answers}

@@ -4,10 +4,9 @@ use Rattle.std.specs.declared.option.Option.{Option}
 use Rattle.std.specs.declared.result.Result.{Result}
 use Rattle.fem_fixed.specs.Mesh.{Mesh}
 use Rattle.fem_text.specs.Outside.{Held}
-use Rattle.run_words.specs.declared.options.Mode.{Mode}
 use Rattle.run_words.specs.declared.options.Format.{Format}
 use Rattle.run_words.specs.declared.options.Format.TheVariants as formats
-use Rattle.run_words.specs.Choice.{Choice, Source, texts, generated}
+use Rattle.run_words.specs.Choice.{Mode, vector_in, Choice, Source, texts, generated}
 use Rattle.run_words.specs.Words.{AskFor}
 use Rattle.run_texts.specs.Read.{MeshUnder}
 use Rattle.run_outputs.specs.Targets.{Target}
@@ -33,9 +32,10 @@ abbrev pub ReadsAlso : Source → List ℕ → Type 0
 ReadsAlso (texts mesh format problem) name = problem ≡ Some name
 ReadsAlso (generated n seed) name = ⊥
 
--- two stores hold the same under each such name
-abbrev pub HoldAlike : Held → Held → Source → Type 0
-HoldAlike held other source = (name : List ℕ) → ReadsAlso source name → held name ≡ other name
+-- two stores hold the same under each such name, and under that of the vector
+pub record HoldAlike (held other : Held) (choice : Choice) : Type 0 where
+  pub source : (name : List ℕ) → ReadsAlso choice.source name → held name ≡ other name
+  pub vector : (name : List ℕ) → vector_in choice.mode ≡ Some name → held name ≡ other name
 
 -- words ask for this choice, and in its format the mesh text that the store holds is of this mesh
 pub record AskOnMesh (words : List (List ℕ)) (held : Held) (choice : Choice) (mesh : Mesh) : Type 0 where
@@ -54,7 +54,7 @@ pub record AskTheSame (words other : List (List ℕ)) (held also : Held) : Type 
   pub first : AskOnMesh words held choice mesh
   pub second : AskOnMesh other also other_choice mesh
   pub alike : AreAlike choice other_choice
-  pub hold : HoldAlike held also choice.source
+  pub hold : HoldAlike held also choice
 
 -- such words have the same answer
 abbrev pub FormatsHaveOneAnswer : Type 0

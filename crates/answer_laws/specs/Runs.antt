@@ -3,13 +3,12 @@ use Rattle.std.specs.Prelude.{◌≡◌, ◌≢◌, ◌⊎◌, ℕ, ◌<◌, ◌
 use Rattle.std.specs.declared.option.Option.{Option}
 use Rattle.std.specs.declared.result.Result.{Result}
 use Rattle.fem_text.specs.Outside.{Held}
-use Rattle.run_words.specs.declared.options.Mode.{Mode}
-use Rattle.run_words.specs.Choice.{Choice}
+use Rattle.run_words.specs.Choice.{Mode, Choice}
 use Rattle.run_outputs.specs.Targets.{Target, after_targets}
 use Rattle.diagnostics.specs.declared.refusal.Refusal.{Refusal}
 use Rattle.diagnostics.specs.Lines.{status_of, refusal_line, TookLine}
 use Rattle.assemble_core.specs.Answer.{Asked, Answers, AreRefused}
-use Rattle.assemble_core.specs.Run.{Outside, IsRun, IsUntouched, after_reads, after_source}
+use Rattle.assemble_core.specs.Run.{Outside, IsRun, IsUntouched, after_reads, after_choice}
 use Rattle.answer_laws.specs.Laws.{ReadNothing}
 
 -- the texts of what the words ask for are told: the store tells what it holds, or none of them is read
@@ -27,7 +26,7 @@ pub record IsTheAnswer (takes : Mode → Bool) (words : List (List ℕ)) (holds 
 pub record Wrote (takes : Mode → Bool) (words : List (List ℕ)) (before now : Outside) (targets : List Target) : Type 0 where
   pub choice : Choice
   pub asked : Asked takes words (Ok choice)
-  pub written : now.world ≡ after_targets (after_source before.world choice.source) targets
+  pub written : now.world ≡ after_targets (after_choice before.world choice) targets
   pub told : now.told ≡ before.told
   pub tells : now.tells ≡ before.tells
 

@@ -5,9 +5,10 @@ ghost use Rattle.answer_laws.specs.Formats.{FormatsHaveOneAnswer, FormatsWriteTh
 
 use crate::parts::{
     known_texts_have_one_answer, mesh_texts_have_one_reading, sources_have_a_reading,
-    systems_have_a_list_of_texts,
+    systems_have_a_list_of_texts, vectors_have_a_reading,
 };
-use system_laws::{a_mesh_has_a_set_up, texts_have_quadrilaterals};
+use system_laws::{a_mesh_can_be_refined, a_mesh_has_a_set_up, texts_have_quadrilaterals};
+use vector_laws::{forests_have_marks, systems_have_a_product};
 
 /// Over a store that tells what it holds, words have at most one answer: the same texts for the same destinations, or
 /// the same refusal. So a run with status 0 (`IsRun`) wrote the one list of texts that its words and the held texts
@@ -92,6 +93,10 @@ pub fn words_have_an_answer()
     texts_have_quadrilaterals();
     a_mesh_has_a_set_up();
     systems_have_a_list_of_texts();
+    vectors_have_a_reading();
+    a_mesh_can_be_refined();
+    systems_have_a_product();
+    forests_have_marks();
 }
 
 /// Words that ask for the same, one list on a mesh text and the other on a text of the same mesh under another name or in the

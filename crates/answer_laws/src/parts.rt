@@ -1,8 +1,9 @@
-ghost use Rattle.answer_laws.specs.Parts.{HaveOneMesh, HaveOneReading, HaveOneListOfTexts, HaveOneAnswerWhereKnown, HaveAReading, HaveAListOfTexts};
+ghost use Rattle.answer_laws.specs.Parts.{HaveOneMesh, HaveOneVector, HaveAVector, HaveOneReading, HaveOneListOfTexts, HaveOneAnswerWhereKnown, HaveAReading, HaveAListOfTexts};
 
 use conflict_coloring::{cells_have_a_coloring, cells_have_one_coloring};
 use serial_sum::{sum_exists, sum_is_unique};
-use system_laws::a_mesh_has_one_system;
+use system_laws::{a_mesh_has_one_system, refined_meshes_are_one};
+use vector_laws::{forests_have_one_list_of_marks, systems_have_one_product};
 
 /// A mesh text in a format has one mesh, or one refusal.
 pub(crate) fn mesh_texts_have_one_reading()
@@ -10,6 +11,20 @@ pub(crate) fn mesh_texts_have_one_reading()
 {
     ucd_read::one_reading();
     msh_read::one_reading();
+}
+
+/// The text of a vector has one list of values, or one refusal.
+fn vectors_have_one_reading()
+    ensures { HaveOneVector }
+{
+    matrix_market::one_vector_reading();
+}
+
+/// A vector under a name has values, or a refusal.
+pub(crate) fn vectors_have_a_reading()
+    ensures { HaveAVector }
+{
+    matrix_market::one_vector_reading();
 }
 
 /// A source whose texts are known has one mesh and one problem, or one refusal.
@@ -34,8 +49,12 @@ pub(crate) fn known_texts_have_one_answer()
 {
     run_words::one_reading();
     sources_have_one_reading();
+    vectors_have_one_reading();
     a_mesh_has_one_system();
     systems_have_one_list_of_texts();
+    refined_meshes_are_one();
+    systems_have_one_product();
+    forests_have_one_list_of_marks();
 }
 
 /// A source has a mesh and a problem, or a refusal.

@@ -1,7 +1,6 @@
 -- Words that are refused.
 use Rattle.std.proofs.Common.{◌≡◌, ap, ◌∙◌, ℕ, List, Bool, false}
-use Rattle.run_words.specs.declared.options.Mode.{Mode}
-use Rattle.run_words.specs.Choice.{Choice}
+use Rattle.run_words.specs.Choice.{Mode, Choice}
 use Rattle.run_words.specs.Words.{AskFor, AskForNothing}
 use Rattle.assemble_core.specs.Modes.{plain_modes}
 use Rattle.assemble_core.specs.Answer.{AreRefused}

@@ -6,9 +6,8 @@ use Rattle.std.specs.declared.result.Result.{Result}
 use Rattle.fem_text.specs.declared.counts.Counts.{Counts}
 use Rattle.fem_text.specs.Counts.{after_good}
 use Rattle.fem_text.specs.Outside.{Held}
-use Rattle.run_words.specs.declared.options.Mode.{Mode}
-use Rattle.run_words.specs.Choice.{Choice, Source}
-use Rattle.run_texts.specs.Read.{ReadsMade, names_in}
+use Rattle.run_words.specs.Choice.{Mode, Choice}
+use Rattle.run_targets.specs.Reads.{reads_in, ChoiceReads}
 use Rattle.run_outputs.specs.Targets.{Target, World, after_targets}
 use Rattle.run_outputs.specs.Stops.{StopsAmong}
 use Rattle.diagnostics.specs.declared.refusal.Refusal.TheVariants.{Words}
@@ -18,7 +17,7 @@ use Rattle.diagnostics.specs.Stages.{stops, goes}
 use Rattle.run_targets.specs.Defines.{Defines}
 use Rattle.run_targets.specs.Ends.{EndsDefining}
 use Rattle.assemble_core.specs.Answer.{Asked, Answers}
-use Rattle.assemble_core.specs.Run.{after_source, Leaves}
+use Rattle.assemble_core.specs.Run.{after_choice, Leaves}
 
 -- the words are refused
 pub words_leave : (takes : Mode → Bool) (words : List (List ℕ)) (before : World) → Asked takes words (Err Words) → Leaves takes words before before (Err (Refused Words))
@@ -32,7 +31,7 @@ same_world holds holds_now taken store out same = ap (λ h. world_of h taken sto
 
 -- the making of the texts ends the run
 pub defining_leaves : (X : Type 0) (takes : Mode → Bool) (words : List (List ℕ)) (choice : Choice) (holds holds_now : Option Held) (taken : Option (List ℕ)) (store store_now out : Counts) (e : Ending) →
-    Asked takes words (Ok choice) → EndsDefining holds choice e → holds_now ≡ holds → ReadsMade {X = X} choice.source (Err e) store store_now →
+    Asked takes words (Ok choice) → EndsDefining holds choice e → holds_now ≡ holds → ChoiceReads {X = X} choice (Err e) store store_now →
     Leaves takes words (world_of holds taken store out) (world_of holds_now taken store_now out) (Err e)
 defining_leaves X takes words choice holds holds_now taken store store_now out (Refused refusal) asked h same calls =
     (goes choice asked h, record { reads = inr (choice, asked, calls); same = same_world holds holds_now taken store_now out same })
@@ -43,20 +42,20 @@ defining_leaves X takes words choice holds holds_now taken store store_now out N
     inl (choice, asked, record { reads = inr (choice, asked, calls); same = same_world holds holds_now taken store_now out same })
 
 writing_leaves : (takes : Mode → Bool) (words : List (List ℕ)) (choice : Choice) (before now : World) (targets : List Target) (e : Ending) → Asked takes words (Ok choice) →
-    Answers takes words before.holds (Ok targets) → StopsAmong targets (after_source before choice.source) now e → Leaves takes words before now (Err e)
+    Answers takes words before.holds (Ok targets) → StopsAmong targets (after_choice before choice) now e → Leaves takes words before now (Err e)
 writing_leaves takes words choice before now targets (Refused refusal) asked answer stop = absurd stop.stops
 writing_leaves takes words choice before now targets (ReadFault role) asked answer stop = absurd stop.stops
 writing_leaves takes words choice before now targets (WriteFault output) asked answer stop = record { choice = choice; asked = asked; targets = targets; answer = answer; stops = stop }
 writing_leaves takes words choice before now targets NoMemory asked answer stop = inr (record { choice = choice; asked = asked; targets = targets; answer = answer; stops = stop })
 
 -- the outside after the reads
-read_world : (source : Source) (holds holds_read : Option Held) (taken : Option (List ℕ)) (store reads out : Counts) → holds_read ≡ holds → reads ≡ after_good (names_in source) store →
-    world_of holds_read taken reads out ≡ after_source (world_of holds taken store out) source
-read_world source holds holds_read taken store reads out same well = same_world holds holds_read taken reads out same ∙ ap (λ c. world_of holds taken c out) well
+read_world : (choice : Choice) (holds holds_read : Option Held) (taken : Option (List ℕ)) (store reads out : Counts) → holds_read ≡ holds → reads ≡ after_good (reads_in choice) store →
+    world_of holds_read taken reads out ≡ after_choice (world_of holds taken store out) choice
+read_world choice holds holds_read taken store reads out same well = same_world holds holds_read taken reads out same ∙ ap (λ c. world_of holds taken c out) well
 
 -- the writing ends the run
 pub written_leaves : (takes : Mode → Bool) (words : List (List ℕ)) (choice : Choice) (holds holds_read : Option Held) (taken : Option (List ℕ)) (store reads out : Counts) (now : World) (targets : List Target)
-    (result : Result Unit Ending) → Asked takes words (Ok choice) → Defines holds choice (Ok targets) → holds_read ≡ holds → reads ≡ after_good (names_in choice.source) store →
+    (result : Result Unit Ending) → Asked takes words (Ok choice) → Defines holds choice (Ok targets) → holds_read ≡ holds → reads ≡ after_good (reads_in choice) store →
     OnOk result (now ≡ after_targets (world_of holds_read taken reads out) targets) → IfErr result (StopsAmong targets (world_of holds_read taken reads out) now) →
     Leaves takes words (world_of holds taken store out) now result
 written_leaves takes words choice holds holds_read taken store reads out now targets (Ok unit) asked defines same well all stop = record {
@@ -64,8 +63,8 @@ written_leaves takes words choice holds holds_read taken store reads out now tar
   asked = asked;
   targets = targets;
   answer = goes choice asked defines;
-  written = all ∙ ap (λ world. after_targets world targets) (read_world choice.source holds holds_read taken store reads out same well);
+  written = all ∙ ap (λ world. after_targets world targets) (read_world choice holds holds_read taken store reads out same well);
 }
 written_leaves takes words choice holds holds_read taken store reads out now targets (Err e) asked defines same well all stop =
     writing_leaves takes words choice (world_of holds taken store out) now targets e asked (goes choice asked defines)
-    (subst (λ world. StopsAmong targets world now e) (read_world choice.source holds holds_read taken store reads out same well) stop)
+    (subst (λ world. StopsAmong targets world now e) (read_world choice holds holds_read taken store reads out same well) stop)

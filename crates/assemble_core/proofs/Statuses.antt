@@ -2,9 +2,9 @@
 use Rattle.std.proofs.Common.{◌≡◌, ◌∙◌, ap, refl, ℕ, List, Bool, true}
 use Rattle.std.specs.Prelude.{Ok, Err}
 use Rattle.std.specs.declared.result.Result.{Result}
-use Rattle.run_words.specs.declared.options.Mode.{Mode}
+use Rattle.run_words.specs.Choice.{Mode}
 use Rattle.diagnostics.specs.declared.refusal.Refusal.{Refusal}
-use Rattle.diagnostics.specs.declared.refusal.Refusal.TheVariants.{Words, MeshText, ProblemText, Mesh, Constraint, Local, Sum, Limit, Absent}
+use Rattle.diagnostics.specs.declared.refusal.Refusal.TheVariants.{Words, MeshText, ProblemText, Mesh, Constraint, Local, Sum, Limit, Vector, Product, Absent}
 use Rattle.diagnostics.specs.declared.ending.Ending.{Ending}
 use Rattle.diagnostics.specs.declared.ending.Ending.TheVariants.{Refused, ReadFault, WriteFault, NoMemory}
 use Rattle.diagnostics.specs.Lines.{ending_status}
@@ -20,6 +20,8 @@ refusal_has_status (Constraint kind place) = refl
 refusal_has_status (Local cell fault) = refl
 refusal_has_status (Sum cell row) = refl
 refusal_has_status (Limit kind) = refl
+refusal_has_status (Vector fault) = refl
+refusal_has_status (Product cell) = refl
 refusal_has_status (Absent role) = refl
 
 ending_has_status : (ending : Ending) → is_status (ending_status ending) ≡ true

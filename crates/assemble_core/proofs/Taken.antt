@@ -5,10 +5,8 @@ use Rattle.std.specs.declared.option.Option.{Option}
 use Rattle.std.specs.declared.result.Result.{Result}
 use Rattle.fem_text.specs.declared.counts.Counts.{Counts}
 use Rattle.fem_text.specs.Outside.{Held}
-use Rattle.run_words.specs.declared.options.Mode.{Mode}
-use Rattle.run_words.specs.declared.options.Mode.TheVariants as modes
 use Rattle.run_words.specs.declared.options.SystemMode.TheVariants as systems
-use Rattle.run_words.specs.Choice.{Choice}
+use Rattle.run_words.specs.Choice.{Mode, of_system, of_mesh, of_vector, Choice}
 use Rattle.run_words.specs.Words.{AskFor, NameOrdered}
 use Rattle.run_outputs.specs.Targets.{Target, World}
 use Rattle.diagnostics.specs.declared.refusal.Refusal.{Refusal}
@@ -48,15 +46,16 @@ module _ (takes other : Mode → Bool) (words : List (List ℕ)) (alike : (outco
   run_alike before now status is = record { end = is.end; status_is = is.status_is; leaves = leaves before.world now.world is.end is.leaves; tells = is.tells }
 
 -- only the mode `ordered` isn't taken by a run that does not wait
-not_plain : (mode : Mode) → plain_modes mode ≡ false → mode ≡ modes.System systems.Ordered
-not_plain (modes.System systems.Serial) h = cc
-not_plain (modes.System systems.Colored) h = cc
-not_plain (modes.System systems.Pattern) h = cc
-not_plain (modes.System systems.Colors) h = cc
-not_plain (modes.System systems.Ordered) h = refl
-not_plain modes.Mesh h = cc
+not_plain : (mode : Mode) → plain_modes mode ≡ false → mode ≡ of_system systems.Ordered
+not_plain (of_system systems.Serial) h = cc
+not_plain (of_system systems.Colored) h = cc
+not_plain (of_system systems.Pattern) h = cc
+not_plain (of_system systems.Colors) h = cc
+not_plain (of_system systems.Ordered) h = refl
+not_plain of_mesh h = cc
+not_plain (of_vector name task) h = cc
 
-asked_alike : (words : List (List ℕ)) → ((choice : Choice) → AskFor words choice → choice.mode ≡ modes.System systems.Ordered → ⊥) → (outcome : Result Choice Refusal) → Asked plain_modes words outcome →
+asked_alike : (words : List (List ℕ)) → ((choice : Choice) → AskFor words choice → choice.mode ≡ of_system systems.Ordered → ⊥) → (outcome : Result Choice Refusal) → Asked plain_modes words outcome →
     Asked all_modes words outcome
 asked_alike words never (Ok choice) asked = (asked.0, refl)
 asked_alike words never (Err refusal) refused = ((λ choice asks. absurd (never choice asks (not_plain choice.mode (refused.0 choice asks)))), refused.1)
@@ -66,10 +65,10 @@ not_both waits is never = (let e : true ≡ false = sym is ∙ never in cc)
 
 -- words that don't name the mode `ordered` don't ask for it
 pub not_asked : (words : List (List ℕ)) (waits : Bool) → ((IsTrue waits → NameOrdered words) × (NameOrdered words → IsTrue waits)) → waits ≡ false →
-    ((all : List (List ℕ)) (choice : Choice) → AskFor all choice → choice.mode ≡ modes.System systems.Ordered → NameOrdered all) → (choice : Choice) → AskFor words choice → choice.mode ≡ modes.System systems.Ordered → ⊥
+    ((all : List (List ℕ)) (choice : Choice) → AskFor all choice → choice.mode ≡ of_system systems.Ordered → NameOrdered all) → (choice : Choice) → AskFor words choice → choice.mode ≡ of_system systems.Ordered → ⊥
 not_asked words waits names never named choice asks ordered = not_both waits (names.1 (named words choice asks ordered)) never
 
 -- a run that does not wait, of words that don't ask for the mode `ordered`
-pub plain_is_all : (words : List (List ℕ)) (before now : Outside) (status : ℕ) → ((choice : Choice) → AskFor words choice → choice.mode ≡ modes.System systems.Ordered → ⊥) →
+pub plain_is_all : (words : List (List ℕ)) (before now : Outside) (status : ℕ) → ((choice : Choice) → AskFor words choice → choice.mode ≡ of_system systems.Ordered → ⊥) →
     IsRun plain_modes words before now status → IsRun all_modes words before now status
 plain_is_all words before now status never is = run_alike plain_modes all_modes words (asked_alike words never) before now status is

@@ -3,8 +3,7 @@ use Rattle.std.specs.Prelude.{◌≡◌, ℕ, List, Bool, true, false, Ok, Err}
 use Rattle.std.specs.declared.option.Option.{Option}
 use Rattle.std.specs.declared.result.Result.{Result}
 use Rattle.fem_text.specs.Outside.{Held}
-use Rattle.run_words.specs.declared.options.Mode.{Mode}
-use Rattle.run_words.specs.Choice.{Choice}
+use Rattle.run_words.specs.Choice.{Mode, Choice}
 use Rattle.run_words.specs.Words.{AskFor}
 use Rattle.run_outputs.specs.Targets.{Target}
 use Rattle.run_targets.specs.Defines.{Defines}

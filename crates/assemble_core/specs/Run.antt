@@ -6,9 +6,9 @@ use Rattle.std.specs.List.{list_any}
 use Rattle.fem_text.specs.declared.counts.Counts.{Counts}
 use Rattle.fem_text.specs.Counts.{after_call, after_good}
 use Rattle.fem_text.specs.Outside.{Held}
-use Rattle.run_words.specs.declared.options.Mode.{Mode}
-use Rattle.run_words.specs.Choice.{Choice, Source}
-use Rattle.run_texts.specs.Read.{GoesOnTo, SomeRead, names_in, reads_before}
+use Rattle.run_words.specs.Choice.{Mode, Choice}
+use Rattle.run_texts.specs.Read.{SomeRead, reads_before}
+use Rattle.run_targets.specs.Reads.{reads_in, ComesTo}
 use Rattle.run_outputs.specs.Targets.{Target, World, after_targets}
 use Rattle.run_outputs.specs.Stops.{StopsAmong}
 use Rattle.diagnostics.specs.declared.ending.Role.{Role}
@@ -19,28 +19,28 @@ use Rattle.assemble_core.specs.Answer.{Asked, Answers}
 
 -- some of the reads that the words name were made, none where they are refused, and all went well
 abbrev pub ReadsWell : (Mode → Bool) → List (List ℕ) → Counts → Counts → Type 0
-ReadsWell takes words before now = (now ≡ before) ⊎ ((choice : Choice) × Asked takes words (Ok choice) × SomeRead choice.source before now)
+ReadsWell takes words before now = (now ≡ before) ⊎ ((choice : Choice) × Asked takes words (Ok choice) × SomeRead (reads_in choice) before now)
 
 -- the same outside, with these counts of the store
 abbrev pub after_reads : World → Counts → World
 after_reads before reads = record { holds = before.holds; taken = before.taken; store = reads; out = before.out }
 
--- the same outside, after all reads that a source names, each of which went well
-abbrev pub after_source : World → Source → World
-after_source before source = after_reads before (after_good (names_in source) before.store)
+-- the same outside, after all reads that a choice names, each of which went well
+abbrev pub after_choice : World → Choice → World
+after_choice before choice = after_reads before (after_good (reads_in choice) before.store)
 
 -- nothing was written or put, and no call failed
 pub record IsUntouched (takes : Mode → Bool) (words : List (List ℕ)) (before now : World) : Type 0 where
   pub reads : ReadsWell takes words before.store now.store
   pub same : now ≡ after_reads before now.store
 
--- a read failed: the first where this text is the mesh, and the second, behind one that went well, where it is the problem;
--- nothing is refused before this text, and nothing was written or put
+-- a read failed: the first where this text is the mesh, the second, behind one that went well, where it is the problem, and
+-- the last, behind all that went well, where it is the vector; nothing is refused before this text, and nothing was written or put
 pub record IsReadFault (takes : Mode → Bool) (words : List (List ℕ)) (before now : World) (role : Role) : Type 0 where
   pub choice : Choice
   pub asked : Asked takes words (Ok choice)
-  pub goes_on : GoesOnTo before.holds choice.source role
-  pub reads : now.store ≡ after_call true (after_good (reads_before role) before.store)
+  pub goes_on : ComesTo before.holds choice role
+  pub reads : now.store ≡ after_call true (after_good (reads_before choice.source role) before.store)
   pub same : now ≡ after_reads before now.store
 
 -- all reads that the words name went well, and what they define was written, and nothing else
@@ -49,7 +49,7 @@ pub record IsWritten (takes : Mode → Bool) (words : List (List ℕ)) (before n
   pub asked : Asked takes words (Ok choice)
   pub targets : List Target
   pub answer : Answers takes words before.holds (Ok targets)
-  pub written : now ≡ after_targets (after_source before choice.source) targets
+  pub written : now ≡ after_targets (after_choice before choice) targets
 
 -- all reads that the words name went well, and the writing of what they define stopped so
 pub record StopsWriting (takes : Mode → Bool) (words : List (List ℕ)) (before now : World) (ending : Ending) : Type 0 where
@@ -57,7 +57,7 @@ pub record StopsWriting (takes : Mode → Bool) (words : List (List ℕ)) (befor
   pub asked : Asked takes words (Ok choice)
   pub targets : List Target
   pub answer : Answers takes words before.holds (Ok targets)
-  pub stops : StopsAmong targets (after_source before choice.source) now ending
+  pub stops : StopsAmong targets (after_choice before choice) now ending
 
 -- what a run of these words leaves by its end: all is written; the words define a refusal; a read failed; a write
 -- failed; or memory ran out, before anything was written or in a write
@@ -102,4 +102,4 @@ pub record IsRun (takes : Mode → Bool) (words : List (List ℕ)) (before now :
 
 -- the statuses of runs
 abbrev pub is_status : ℕ → Bool
-is_status status = list_any (λ number. number == status) (0 ∷ 2 ∷ 3 ∷ 4 ∷ 5 ∷ 6 ∷ 7 ∷ 8 ∷ 9 ∷ 10 ∷ 11 ∷ 12 ∷ 17 ∷ [])
+is_status status = list_any (λ number. number == status) (0 ∷ 2 ∷ 3 ∷ 4 ∷ 5 ∷ 6 ∷ 7 ∷ 8 ∷ 9 ∷ 10 ∷ 11 ∷ 12 ∷ 14 ∷ 15 ∷ 17 ∷ [])

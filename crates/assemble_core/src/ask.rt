@@ -1,5 +1,5 @@
 ghost use Rattle.std.specs.Prelude.{◌≡◌, map, string_bytes, IfSome, IfNone, Ok, Err};
-ghost use Rattle.run_words.specs.Choice.{seen};
+ghost use Rattle.run_words.specs.Choice.{seen, seen_mode};
 ghost use Rattle.run_words.specs.Ranges.{IsWithinRanges};
 ghost use Rattle.diagnostics.specs.declared.refusal.Refusal.TheVariants.{Words};
 ghost use Rattle.assemble_core.specs.Modes.{plain_modes, all_modes};
@@ -42,12 +42,13 @@ pub(crate) fn all_options(words: &[String]) -> Option<Options<'_>>
 }
 
 // The modes of a run that does not wait.
-fn is_plain(mode: Mode) -> bool
-    ensures { result ≡ plain_modes mode }
+fn is_plain(mode: Mode<'_>) -> bool
+    ensures { result ≡ plain_modes (seen_mode mode.entry) }
 {
     match mode {
         Mode::System(SystemMode::Serial | SystemMode::Colored) => true,
-        Mode::System(SystemMode::Pattern | SystemMode::Colors) | Mode::Mesh => true,
+        Mode::System(SystemMode::Pattern | SystemMode::Colors) => true,
+        Mode::Mesh | Mode::Vector { name: _, task: _ } => true,
         Mode::System(SystemMode::Ordered) => false,
     }
 }

@@ -1,5 +1,6 @@
 //! The program `assemble`: it reads a mesh and a problem, and writes the system of the problem, its summary, its pattern,
-//! the colours of its cells, or the mesh.
+//! the colours of its cells, or the mesh; or it reads a vector too, and writes its product with the operator of the system, or
+//! refines the mesh where its gradient jumps most.
 #![tactic(auto)]
 
 mod ask;

@@ -14,17 +14,20 @@ use std::rt::Runtime;
 use std::sync::Wait;
 use std::thread::Threads;
 
-/// The program: reads the mesh and the problem that the words name, or generates them, and writes what the words
-/// ask for.
+/// The program: reads the mesh and the problem that the words name, or generates them, and the vector, and writes what the
+/// words ask for.
 ///
 /// The status is 0 where all was written, and else that of the first fault in the order of work: the words; the mesh text,
 /// read and judged in its format, and then the problem text; the coarse mesh, its steps of refinement, the constraint lines,
-/// the pattern; the sums; the writing. The mode `mesh` goes from the problem text to the writing.
+/// the pattern; the sums; the writing. The mode `mesh` goes from the problem text to the writing. A vector is read and its text
+/// judged behind the problem text. In the mode `product` its values are looked at behind the pattern, and then its product is
+/// made; in the modes `marks` and `adapt` they are looked at behind the steps of refinement, and then its indicators are made,
+/// and `adapt` goes on with one more step.
 ///
 /// | Status | Where |
 /// |---|---|
 /// | 2 | the words ask for nothing |
-/// | 10 | a read failed: the first where the line names the mesh, the second where it names the problem |
+/// | 10 | a read failed: the first where the line names the mesh, the second where it names the problem, the last where it names the vector |
 /// | 17 | the store tells that a text is absent |
 /// | 9 | a text, a count, a level, the cells or the entries pass their limit |
 /// | 3 | the mesh text has another fault |
@@ -33,6 +36,8 @@ use std::thread::Threads;
 /// | 6 | the constraint lines have a fault |
 /// | 7 | the local form of a cell or of one of its faces has a fault |
 /// | 8 | an addition passes 2^80 in size |
+/// | 14 | the text of the vector has another fault, or it hasn't one value for each degree of freedom, or one is too large |
+/// | 15 | the product of a local row with the vector passes 2^104 in size |
 /// | 11 | a write or a put failed: the texts before it are whole, and of it a part stands |
 /// | 12 | memory ran out: nothing is written, or the first of two texts alone |
 ///

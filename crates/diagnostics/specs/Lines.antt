@@ -9,6 +9,10 @@ use Rattle.diagnostics.specs.declared.kinds.MeshTextKind.{MeshTextKind}
 use Rattle.diagnostics.specs.declared.kinds.MeshTextKind.TheVariants as mesh_texts
 use Rattle.diagnostics.specs.declared.kinds.ProblemTextKind.{ProblemTextKind}
 use Rattle.diagnostics.specs.declared.kinds.ProblemTextKind.TheVariants as problem_texts
+use Rattle.diagnostics.specs.declared.kinds.VectorTextKind.{VectorTextKind}
+use Rattle.diagnostics.specs.declared.kinds.VectorTextKind.TheVariants as vector_texts
+use Rattle.diagnostics.specs.declared.kinds.VectorFault.{VectorFault}
+use Rattle.diagnostics.specs.declared.kinds.VectorFault.TheVariants as vectors
 use Rattle.diagnostics.specs.declared.kinds.MeshKind.{MeshKind}
 use Rattle.diagnostics.specs.declared.kinds.MeshKind.TheVariants as meshes
 use Rattle.diagnostics.specs.declared.kinds.ConstraintKind.{ConstraintKind}
@@ -16,9 +20,9 @@ use Rattle.diagnostics.specs.declared.kinds.ConstraintKind.TheVariants as constr
 use Rattle.diagnostics.specs.declared.kinds.LocalKind.{LocalKind}
 use Rattle.diagnostics.specs.declared.kinds.LocalKind.TheVariants as locals
 use Rattle.diagnostics.specs.declared.kinds.LimitKind.{LimitKind}
-use Rattle.diagnostics.specs.declared.kinds.LimitKind.TheVariants.{MeshSize, MeshCount, ProblemSize, ProblemCount, Level, Cells, Entries}
+use Rattle.diagnostics.specs.declared.kinds.LimitKind.TheVariants.{MeshSize, MeshCount, ProblemSize, ProblemCount, VectorSize, Level, Cells, Entries}
 use Rattle.diagnostics.specs.declared.refusal.Refusal.{Refusal}
-use Rattle.diagnostics.specs.declared.refusal.Refusal.TheVariants.{Words, MeshText, ProblemText, Mesh, Constraint, Local, Sum, Limit, Absent}
+use Rattle.diagnostics.specs.declared.refusal.Refusal.TheVariants.{Words, MeshText, ProblemText, Mesh, Constraint, Local, Sum, Limit, Vector, Product, Absent}
 use Rattle.diagnostics.specs.declared.ending.Role.{Role}
 use Rattle.diagnostics.specs.declared.ending.Role.TheVariants as roles
 use Rattle.diagnostics.specs.declared.ending.Output.{Output}
@@ -35,6 +39,8 @@ status_of (Constraint kind place) = 6
 status_of (Local cell kind) = 7
 status_of (Sum cell row) = 8
 status_of (Limit kind) = 9
+status_of (Vector fault) = 14
+status_of (Product cell) = 15
 status_of (Absent role) = 17
 
 abbrev pub ending_status : Ending → ℕ
@@ -61,6 +67,12 @@ problem_text_word problem_texts.Word = codes "Word"
 problem_text_word problem_texts.Number = codes "Number"
 problem_text_word problem_texts.Repeated = codes "Repeated"
 
+abbrev pub vector_text_word : VectorTextKind → List ℕ
+vector_text_word vector_texts.Banner = codes "Banner"
+vector_text_word vector_texts.Size = codes "Size"
+vector_text_word vector_texts.Entry = codes "Entry"
+vector_text_word vector_texts.TooFew = codes "TooFew"
+
 abbrev pub mesh_word : MeshKind → List ℕ
 mesh_word meshes.RepeatedCorner = codes "RepeatedCorner"
 mesh_word meshes.ZeroArea = codes "ZeroArea"
@@ -85,6 +97,7 @@ local_word locals.Size = codes "Size"
 abbrev pub role_word : Role → List ℕ
 role_word roles.Mesh = codes "mesh"
 role_word roles.Problem = codes "problem"
+role_word roles.Vector = codes "vector"
 
 abbrev pub output_word : Output → List ℕ
 output_word outputs.Matrix = codes "matrix"
@@ -110,9 +123,15 @@ limit_line MeshSize = word_line (codes "9 Limit ") (codes "MeshSize")
 limit_line (MeshCount line) = fault_line (codes "9 Limit MeshCount ") (codes "line") line
 limit_line ProblemSize = word_line (codes "9 Limit ") (codes "ProblemSize")
 limit_line (ProblemCount line) = fault_line (codes "9 Limit ProblemCount ") (codes "line") line
+limit_line VectorSize = word_line (codes "9 Limit ") (codes "VectorSize")
 limit_line Level = word_line (codes "9 Limit ") (codes "Level")
 limit_line Cells = word_line (codes "9 Limit ") (codes "Cells")
 limit_line Entries = word_line (codes "9 Limit ") (codes "Entries")
+
+abbrev pub vector_line : VectorFault → List ℕ
+vector_line (vectors.Text kind line) = named_line (codes "14 VectorText line ") line (vector_text_word kind)
+vector_line (vectors.Length length) = fault_line (codes "14 VectorText ") (codes "Length") length
+vector_line (vectors.Value place) = fault_line (codes "14 VectorText ") (codes "Value") place
 
 -- the line of a refusal
 abbrev pub refusal_line : Refusal → List ℕ
@@ -124,6 +143,8 @@ refusal_line (Constraint kind place) = fault_line (codes "6 Constraint ") (const
 refusal_line (Local cell kind) = named_line (codes "7 Local cell ") cell (local_word kind)
 refusal_line (Sum cell row) = sum_line cell row
 refusal_line (Limit kind) = limit_line kind
+refusal_line (Vector fault) = vector_line fault
+refusal_line (Product cell) = fault_line (codes "15 Product ") (codes "cell") cell
 refusal_line (Absent role) = word_line (codes "17 Absent ") (role_word role)
 
 -- the line of an ending

@@ -12,6 +12,7 @@ use fem_text::Sink;
 pub enum Role {
     Mesh,
     Problem,
+    Vector,
 }
 
 impl Role {
@@ -22,6 +23,7 @@ impl Role {
         match self {
             Role::Mesh => b"mesh",
             Role::Problem => b"problem",
+            Role::Vector => b"vector",
         }
     }
 }
@@ -29,7 +31,8 @@ impl Role {
 /// A text that a run writes.
 #[derive(Clone, Copy, Debug, PartialEq, Eq)]
 pub enum Output {
-    /// The matrix, or what stands in its place: the pattern, the colours, the mesh or the summary.
+    /// The matrix, or what stands in its place: the pattern, the colours, the mesh, the product, the marks or the
+    /// summary.
     Matrix,
     /// The right side.
     RightSide,

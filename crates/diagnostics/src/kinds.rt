@@ -60,6 +60,40 @@ impl ProblemTextKind {
     }
 }
 
+/// The kinds of fault of the text of a vector.
+#[derive(Clone, Copy, Debug, PartialEq, Eq)]
+pub enum VectorTextKind {
+    Banner,
+    Size,
+    Entry,
+    TooFew,
+}
+
+impl VectorTextKind {
+    /// Its word in a line.
+    pub(crate) fn word(self) -> &'static [u8]
+        ensures { result.now ≡ lines.vector_text_word self }
+    {
+        match self {
+            VectorTextKind::Banner => b"Banner",
+            VectorTextKind::Size => b"Size",
+            VectorTextKind::Entry => b"Entry",
+            VectorTextKind::TooFew => b"TooFew",
+        }
+    }
+}
+
+/// What is wrong with a vector.
+#[derive(Clone, Copy, Debug, PartialEq, Eq)]
+pub enum VectorFault {
+    /// The first fault of its text, and its line.
+    Text(VectorTextKind, u32),
+    /// It has so many values, and not one for each degree of freedom.
+    Length(u32),
+    /// The value at this place is too large, and it is the first such value.
+    Value(u32),
+}
+
 /// The kinds of fault of a mesh: of the coarse mesh, and of a step of its refinement.
 #[derive(Clone, Copy, Debug, PartialEq, Eq)]
 pub enum MeshKind {
@@ -148,6 +182,8 @@ pub enum LimitKind {
     ProblemSize,
     /// The problem text has too many lines or terms, on this line.
     ProblemCount(u32),
+    /// The vector's text is above 268,435,456 bytes.
+    VectorSize,
     /// A cell would be refined more than twelve times.
     Level,
     /// There would be more than 1,048,576 active cells.

@@ -7,5 +7,8 @@ mod line;
 mod refusal;
 
 pub use ending::{Ending, Output, Role};
-pub use kinds::{ConstraintKind, LimitKind, LocalKind, MeshKind, MeshTextKind, ProblemTextKind};
+pub use kinds::{
+    ConstraintKind, LimitKind, LocalKind, MeshKind, MeshTextKind, ProblemTextKind, VectorFault,
+    VectorTextKind,
+};
 pub use refusal::Refusal;

@@ -3,7 +3,9 @@ ghost use Rattle.diagnostics.specs.Lines.{status_of, TookLine};
 ghost use Rattle.diagnostics.specs.Lines as lines;
 
 use crate::ending::{Role, put_word};
-use crate::kinds::{ConstraintKind, LimitKind, LocalKind, MeshKind, MeshTextKind, ProblemTextKind};
+use crate::kinds::{
+    ConstraintKind, LimitKind, LocalKind, MeshKind, MeshTextKind, ProblemTextKind, VectorFault,
+};
 use crate::line::{Piece, put_pieces};
 use fem_text::Sink;
 
@@ -26,6 +28,11 @@ pub enum Refusal {
     Sum(u32, u32),
     /// Something is too large or too many.
     Limit(LimitKind),
+    /// The vector has a fault.
+    Vector(VectorFault),
+    /// The product of a local row of this cell with the vector passes 2^104 in size, and no cell before it, in the order of the
+    /// colours, fails.
+    Product(u32),
     /// The store tells what it holds, and the text isn't held.
     Absent(Role),
 }
@@ -44,6 +51,8 @@ impl Refusal {
             Refusal::Local(_, _) => 7,
             Refusal::Sum(_, _) => 8,
             Refusal::Limit(_) => 9,
+            Refusal::Vector(_) => 14,
+            Refusal::Product(_) => 15,
             Refusal::Absent(_) => 17,
         }
     }
@@ -68,6 +77,8 @@ impl Refusal {
             Refusal::Local(cell, kind) => put_named(err, b"7 Local cell ", cell, kind.word()),
             Refusal::Sum(cell, row) => put_sum(err, cell, row),
             Refusal::Limit(kind) => put_limit(err, kind),
+            Refusal::Vector(fault) => put_vector(err, fault),
+            Refusal::Product(cell) => put_fault(err, b"15 Product ", b"cell", cell),
             Refusal::Absent(role) => put_word(err, b"17 Absent ", role.word()),
         }
     }
@@ -135,8 +146,22 @@ fn put_limit<K: Sink>(err: &mut K, kind: LimitKind)
         LimitKind::MeshCount(line) => put_fault(err, b"9 Limit MeshCount ", b"line", line),
         LimitKind::ProblemSize => put_word(err, b"9 Limit ", b"ProblemSize"),
         LimitKind::ProblemCount(line) => put_fault(err, b"9 Limit ProblemCount ", b"line", line),
+        LimitKind::VectorSize => put_word(err, b"9 Limit ", b"VectorSize"),
         LimitKind::Level => put_word(err, b"9 Limit ", b"Level"),
         LimitKind::Cells => put_word(err, b"9 Limit ", b"Cells"),
         LimitKind::Entries => put_word(err, b"9 Limit ", b"Entries"),
+    }
+}
+
+/// The line of a fault of a vector.
+fn put_vector<K: Sink>(err: &mut K, fault: VectorFault)
+    ensures { TookLine (K.taken err.old) (K.taken err.new) (K.counts err.old) (K.counts err.new) (lines.vector_line fault) }
+{
+    match fault {
+        VectorFault::Text(kind, line) => {
+            put_named(err, b"14 VectorText line ", line, kind.word())
+        }
+        VectorFault::Length(length) => put_fault(err, b"14 VectorText ", b"Length", length),
+        VectorFault::Value(place) => put_fault(err, b"14 VectorText ", b"Value", place),
     }
 }

@@ -11,3 +11,5 @@ pub mod Fits
 pub mod ShapeSizes
 pub mod Forms
 pub mod Jumps
+pub mod Turned
+pub mod Exchanged

@@ -30,4 +30,4 @@ pub use matrix_writer::matrix_text;
 pub use pattern_writer::pattern_text;
 pub use triples::{Triples, Values};
 pub use vector_reader::read_vector;
-pub use vector_writer::vector_text;
+pub use vector_writer::{values_text, vector_text};

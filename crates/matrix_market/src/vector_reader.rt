@@ -1,4 +1,4 @@
-ghost use Rattle.std.specs.Prelude.{◌≡◌, ◌≤◌, length, Ok, IfOk, IfErr, OnOk};
+ghost use Rattle.std.specs.Prelude.{◌≡◌, ◌≤◌, ◌<◌, ◌^◌, length, Ok, IfOk, IfErr, OnOk};
 ghost use Rattle.std.specs.List.{slice_get};
 ghost use Rattle.fem_text.specs.WordLines.{behind};
 ghost use Rattle.fem_text.specs.Reading.{outcome, IsFault, ReadsAll, FailsFirst};
@@ -22,6 +22,7 @@ use std::alloc::Global;
 pub fn read_vector(alloc: Global, text: &[u8]) -> Result<Values, MarketFault>
     requires { length text.now ≤ 4294967294 }
     ensures ok { IfOk result (λ values. VectorText text.now values) }
+    ensures few { IfOk result (λ values. length values < 2 ^ 32) }
     ensures err { IfErr result (λ fault. NoMemoryOr fault (VectorFaultAt text.now fault.kind fault.line)) }
 {
     let mut lines = WordLines::new(text, None);

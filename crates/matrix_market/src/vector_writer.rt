@@ -15,6 +15,40 @@ use std::alloc::Global;
 
 const HEAD: &[u8] = b"%%MatrixMarket matrix array integer general\n% unit 2^-32\n";
 
+/// The text of values, in units of 2^-32: that of a right side with these values.
+///
+/// The text is written into one buffer, which is taken once with just the size of the text.
+pub fn values_text(alloc: Global, list: &[i128]) -> Result<Vec<u8>, NoMemory>
+    ensures { IfOk result (λ text. text.items ≡ written.vector_text list.now) }
+{
+    let mut text = reserve(alloc, list_size(list))?;
+    append_front(&mut text, list.len() as u64);
+    append_list(&mut text, list);
+    Ok(text)
+}
+
+// How many bytes the text of values takes.
+fn list_size(list: &[i128]) -> usize
+    ensures { result ≡ size_of (written.vector_text list.now) }
+{
+    let mut size = front_size(list.len() as u64);
+    for value in list {
+        size = size.saturating_add(width(*value) + 1);
+    }
+    size
+}
+
+// Adds the values of a list.
+fn append_list(text: &mut Vec<u8>, list: &[i128])
+    requires { length (text.old.items ++ values_text list.now) ≤ vec_capacity text.old }
+    ensures items { text.new.items ≡ text.old.items ++ values_text list.now }
+    ensures room { vec_capacity text.old ≤ vec_capacity text.new }
+{
+    for value in list {
+        append_value(text, *value);
+    }
+}
+
 /// The text of a right side, in units of 2^-32: after the banner and a comment that names the unit the line `rows 1`,
 /// and then a value a line.
 ///
@@ -23,7 +57,7 @@ pub fn vector_text(alloc: Global, rows: &Rows) -> Result<Vec<u8>, NoMemory>
     ensures { IfOk result (λ text. text.items ≡ written.vector_text (right_sides rows.now)) }
 {
     let mut text = reserve(alloc, vector_size(rows))?;
-    append_front(&mut text, rows.size());
+    append_front(&mut text, rows.size() as u64);
     append_values(&mut text, rows);
     Ok(text)
 }
@@ -32,7 +66,7 @@ pub fn vector_text(alloc: Global, rows: &Rows) -> Result<Vec<u8>, NoMemory>
 fn vector_size(rows: &Rows) -> usize
     ensures { result ≡ size_of (written.vector_text (right_sides rows.now)) }
 {
-    let mut size = front_size(rows.size());
+    let mut size = front_size(rows.size() as u64);
     for i in 0..rows.size() {
         size = size.saturating_add(width(right_side(rows, i)) + 1);
     }
@@ -41,7 +75,7 @@ fn vector_size(rows: &Rows) -> usize
 
 // Adds the first lines.
 #[tactic(auto, unfolding(crate::specs::Texts::vector_front))]
-fn append_front(text: &mut Vec<u8>, size: u32)
+fn append_front(text: &mut Vec<u8>, size: u64)
     requires { length (text.old.items ++ text_of (written.vector_front size)) ≤ vec_capacity text.old }
     ensures items { text.new.items ≡ text.old.items ++ text_of (written.vector_front size) }
     ensures room { vec_capacity text.old ≤ vec_capacity text.new }
@@ -51,7 +85,7 @@ fn append_front(text: &mut Vec<u8>, size: u32)
 }
 
 // Adds the size line.
-fn append_size(text: &mut Vec<u8>, size: u32)
+fn append_size(text: &mut Vec<u8>, size: u64)
     requires { length (text.old.items ++ text_of (vector_size_line size ∷ [])) ≤ vec_capacity text.old }
     ensures items { text.new.items ≡ text.old.items ++ text_of (vector_size_line size ∷ []) }
     ensures room { vec_capacity text.old ≤ vec_capacity text.new }
@@ -61,7 +95,7 @@ fn append_size(text: &mut Vec<u8>, size: u32)
 
 // How many bytes the first lines take.
 #[tactic(auto, unfolding(crate::specs::Texts::vector_front))]
-fn front_size(size: u32) -> usize
+fn front_size(size: u64) -> usize
     ensures value { result ≡ length (text_of (written.vector_front size)) }
     ensures few { result ≤ 300 }
 {

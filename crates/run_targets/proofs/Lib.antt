@@ -1,3 +1,6 @@
 pub mod Setups
+pub mod Steps
 pub mod Systems
+pub mod Vectors
+pub mod Adapted
 pub mod Definitions

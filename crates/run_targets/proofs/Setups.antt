@@ -1,5 +1,5 @@
 -- A set-up has a pattern within its limit.
-use Rattle.std.proofs.Common.{◌≤◌, length}
+use Rattle.std.proofs.Common.{◌≤◌, ℕ, List, length}
 use Rattle.std.specs.Prelude.{Ok, Err, IfOk}
 use Rattle.std.specs.declared.result.Result.{Result}
 use Rattle.std.specs.List.{concat}
@@ -9,7 +9,8 @@ use Rattle.mesh_visits.specs.declared.flags.Flags.{Flags}
 use Rattle.mesh_loop.specs.Setup.{MeshProblem, pattern_of}
 use Rattle.diagnostics.specs.declared.ending.Ending.{Ending}
 use Rattle.diagnostics.specs.Stages.{Then, stops, goes}
-use Rattle.system_setup.specs.SetUp.{IsSetUp}
+use Rattle.hanging_refine.specs.Refined.{RefinedMesh}
+use Rattle.system_setup.specs.SetUp.{SetUpOn, IsSetUp}
 use Rattle.diagnostics.specs.declared.refusal.Refusal.{Refusal}
 
 -- the last step of two that go well
@@ -28,3 +29,15 @@ pub few_result : (flags : Flags) (parts : Mesh) (problem : ProblemParts) (result
     IfOk result (λ s. length (concat (pattern_of s)) ≤ 33554432)
 few_result flags parts problem (Ok s) is = few_entries flags parts problem s is
 few_result flags parts problem (Err e) is = tt
+
+few_on : (flags : Flags) (ids : List ℕ) (problem : ProblemParts) (forest : RefinedMesh) (s : MeshProblem) → SetUpOn flags ids problem forest (Ok s) → length (concat (pattern_of s)) ≤ 33554432
+unfolding pattern_of
+few_on flags ids problem forest s is =
+    let P : MeshProblem → Type 0 = λ t. length (concat (pattern_of t)) ≤ 33554432 in
+    last_goes P _ _ s (λ table made. made.1) is
+
+-- the same on a refined mesh
+pub few_result_on : (flags : Flags) (ids : List ℕ) (problem : ProblemParts) (forest : RefinedMesh) (result : Result MeshProblem Ending) →
+    IfOk result (λ s. SetUpOn flags ids problem forest (Ok s)) → IfOk result (λ s. length (concat (pattern_of s)) ≤ 33554432)
+few_result_on flags ids problem forest (Ok s) is = few_on flags ids problem forest s is
+few_result_on flags ids problem forest (Err e) is = tt

@@ -1,5 +1,5 @@
 -- The texts of a system, step after step.
-use Rattle.std.proofs.Common.{◌≡◌, sym, subst, List}
+use Rattle.std.proofs.Common.{List}
 use Rattle.std.specs.Prelude.{Ok, Err, IfOk, IfErr}
 use Rattle.std.specs.declared.option.Option.{Option}
 use Rattle.std.specs.declared.result.Result.{Result}
@@ -7,7 +7,6 @@ use Rattle.fem_fixed.specs.Mesh.{Mesh}
 use Rattle.problem_read.specs.Entries.{ProblemParts}
 use Rattle.sparsity.specs.declared.rows.Row.{Row}
 use Rattle.mesh_loop.specs.Setup.{MeshProblem}
-use Rattle.run_words.specs.declared.options.Mode.{Mode}
 use Rattle.run_words.specs.declared.options.SystemMode.{SystemMode}
 use Rattle.run_words.specs.Choice.{Choice}
 use Rattle.run_outputs.specs.Targets.{Target}
@@ -18,7 +17,7 @@ use Rattle.diagnostics.proofs.StageLaws.{ends_first, ends_next, goes_well}
 use Rattle.system_setup.specs.SetUp.{IsSetUp}
 use Rattle.system_texts.specs.Sums.{Summed}
 use Rattle.system_texts.specs.Texts.{AreTargets, TextsOf, SystemTexts}
-use Rattle.run_targets.specs.Defines.{flags_of, Assembled, Made}
+use Rattle.run_targets.specs.Defines.{flags_of, Assembled}
 
 abbrev SetUpOf : Choice → (Mesh × ProblemParts) → Result MeshProblem Refusal → Type 0
 SetUpOf choice read = IsSetUp (flags_of choice) read.0 read.1
@@ -48,12 +47,3 @@ module _ (mode : SystemMode) (choice : Choice) (read : Mesh × ProblemParts) whe
 pub sums_texts : (mode : SystemMode) (choice : Choice) (s : MeshProblem) (rows : Option (List Row)) (targets : List Target) → Summed mode choice.digits s (Ok rows) →
     AreTargets mode choice.output s rows targets → SystemTexts mode choice s (Ok targets)
 sums_texts mode choice s rows targets sum are = goes_well (Summed mode choice.digits s) (TextsOf mode choice.output s) rows targets sum are
-
--- what is made in a mode
-pub made_in : {X : Type 0} (mode other : Mode) (choice : Choice) (read : Mesh × ProblemParts) (f : X → List Target) (result : Result X Ending) → other ≡ mode →
-    IfOk result (λ x. Made mode choice read (Ok (f x))) → IfOk result (λ x. Made other choice read (Ok (f x)))
-made_in mode other choice read f result is h = subst (λ m. IfOk result (λ x. Made m choice read (Ok (f x)))) (sym is) h
-
-pub ends_in : {X : Type 0} (mode other : Mode) (choice : Choice) (read : Mesh × ProblemParts) (result : Result X Ending) → other ≡ mode →
-    IfErr result (EndsIn (Made mode choice read)) → IfErr result (EndsIn (Made other choice read))
-ends_in mode other choice read result is h = subst (λ m. IfErr result (EndsIn (Made m choice read))) (sym is) h

@@ -1,2 +1,3 @@
 pub mod Defines
+pub mod Reads
 pub mod Ends

@@ -1,9 +1,9 @@
 ghost use Rattle.std.specs.Prelude.{◌≡◌, map, IfOk, IfErr, Ok};
 ghost use Rattle.run_words.specs.Choice.{seen};
 ghost use Rattle.run_words.specs.Ranges.{IsWithinRanges};
-ghost use Rattle.run_texts.specs.Read.{ReadsMade};
 ghost use Rattle.run_outputs.specs.Targets.{seen_target};
 ghost use Rattle.run_targets.specs.Defines.{Defines};
+ghost use Rattle.run_targets.specs.Reads.{ChoiceReads};
 ghost use Rattle.run_targets.specs.Ends.{EndsDefining};
 
 use crate::make::{make_any, make_plain};
@@ -33,10 +33,10 @@ pub fn plain_targets<'a, R: Threads + Sync, S: Store, G: Gate + Sync>(
     ensures ok { IfOk result (λ targets. Defines (S.holds store.old) (seen options.now) (Ok (map seen_target targets.items))) }
     ensures ends { IfErr result (EndsDefining (S.holds store.old) (seen options.now)) }
     ensures same { S.holds store.new ≡ S.holds store.old }
-    ensures calls { ReadsMade (seen options.now).source result (S.counts store.old) (S.counts store.new) }
+    ensures calls { ChoiceReads (seen options.now) result (S.counts store.old) (S.counts store.new) }
 {
     match read_source(alloc, options.source, store) {
-        Ok(read) => make_plain(rt, alloc, options, read, gate),
+        Ok(read) => make_plain(rt, alloc, options, read, store, gate),
         Err(ending) => Err(ending),
     }
 }
@@ -57,10 +57,10 @@ pub fn all_targets<'a, R: Threads + Wait + Sync, S: Store, G: Gate + Sync>(
     ensures ok { IfOk result (λ targets. Defines (S.holds store.old) (seen options.now) (Ok (map seen_target targets.items))) }
     ensures ends { IfErr result (EndsDefining (S.holds store.old) (seen options.now)) }
     ensures same { S.holds store.new ≡ S.holds store.old }
-    ensures calls { ReadsMade (seen options.now).source result (S.counts store.old) (S.counts store.new) }
+    ensures calls { ChoiceReads (seen options.now) result (S.counts store.old) (S.counts store.new) }
 {
     match read_source(alloc, options.source, store) {
-        Ok(read) => make_any(rt, alloc, options, read, gate),
+        Ok(read) => make_any(rt, alloc, options, read, store, gate),
         Err(ending) => Err(ending),
     }
 }

@@ -6,7 +6,7 @@ ghost use Rattle.run_words.specs.Choice.{seen};
 ghost use Rattle.run_words.specs.Ranges.{IsWithinRanges};
 ghost use Rattle.run_outputs.specs.Targets.{seen_target};
 ghost use Rattle.diagnostics.specs.Stages.{EndsIn};
-ghost use Rattle.system_setup.specs.SetUp.{IsSetUp};
+ghost use Rattle.system_setup.specs.SetUp.{SetUpOn, IsSetUp};
 ghost use Rattle.system_texts.specs.Sums.{Summed};
 ghost use Rattle.system_texts.specs.Texts.{AreTargets, SystemTexts};
 ghost use Rattle.run_targets.specs.Defines.{Assembled};
@@ -14,6 +14,7 @@ ghost use Rattle.run_targets.specs.Defines as meaning;
 
 use diagnostics::Ending;
 use fem_fixed::{MeshParts, NoMemory};
+use hanging_refine::Forest;
 use mesh_loop::Setup;
 use mesh_visits::{Flags, Interior};
 use problem_read::Problem;
@@ -24,7 +25,7 @@ use sparsity::Rows;
 use std::alloc::Global;
 use std::sync::Wait;
 use std::thread::Threads;
-use system_setup::set_up;
+use system_setup::{set_up, set_up_on};
 use system_texts::{make_targets, sum_rows, sum_rows_by_pipeline};
 
 /// The texts of the system of a mesh and a problem. It does not wait.
@@ -42,15 +43,31 @@ pub(crate) fn plain_system<'a, R: Threads + Sync, G: Gate + Sync>(
     ensures ok { IfOk result (λ targets. Assembled mode (seen options.now) read (Ok (map seen_target targets.items))) }
     ensures ends { IfErr result (EndsIn (Assembled mode (seen options.now) read)) }
 {
-    let setup = match prepare(rt, alloc, options, read) {
-        Ok(setup) => setup,
-        Err(ending) => return Err(ending),
-    };
-    let rows = match sum_rows(rt, alloc, mode, options, &setup, gate) {
+    match prepare(rt, alloc, options, read) {
+        Ok(setup) => plain_texts(rt, alloc, mode, options, &setup, gate),
+        Err(ending) => Err(ending),
+    }
+}
+
+/// The texts of a system that is set up. It does not wait.
+pub(crate) fn plain_texts<'a, R: Threads + Sync, G: Gate + Sync>(
+    rt: &R,
+    alloc: Global,
+    mode: SystemMode,
+    options: &Options<'a>,
+    setup: &Setup,
+    gate: &G,
+) -> Result<Vec<Target<'a>>, Ending>
+    requires within { IsWithinRanges (seen options.now) }
+    requires few { length (concat (pattern_of setup.now)) ≤ 33554432 }
+    ensures ok { IfOk result (λ targets. SystemTexts mode (seen options.now) setup.now (Ok (map seen_target targets.items))) }
+    ensures ends { IfErr result (EndsIn (SystemTexts mode (seen options.now) setup.now)) }
+{
+    let rows = match sum_rows(rt, alloc, mode, options, setup, gate) {
         Ok(rows) => rows,
         Err(ending) => return Err(ending),
     };
-    finish(alloc, mode, options, &setup, rows)
+    finish(alloc, mode, options, setup, rows)
 }
 
 /// The same with a pipeline in the mode `ordered`. It may wait for another thread.
@@ -68,19 +85,35 @@ pub(crate) fn any_system<'a, R: Threads + Wait + Sync, G: Gate + Sync>(
     ensures ok { IfOk result (λ targets. Assembled mode (seen options.now) read (Ok (map seen_target targets.items))) }
     ensures ends { IfErr result (EndsIn (Assembled mode (seen options.now) read)) }
 {
-    let setup = match prepare(rt, alloc, options, read) {
-        Ok(setup) => setup,
-        Err(ending) => return Err(ending),
-    };
-    let rows = match sum_rows_by_pipeline(rt, alloc, mode, options, &setup, gate) {
+    match prepare(rt, alloc, options, read) {
+        Ok(setup) => any_texts(rt, alloc, mode, options, &setup, gate),
+        Err(ending) => Err(ending),
+    }
+}
+
+// The texts of a system that is set up. It may wait for another thread.
+fn any_texts<'a, R: Threads + Wait + Sync, G: Gate + Sync>(
+    rt: &R,
+    alloc: Global,
+    mode: SystemMode,
+    options: &Options<'a>,
+    setup: &Setup,
+    gate: &G,
+) -> Result<Vec<Target<'a>>, Ending>
+    requires within { IsWithinRanges (seen options.now) }
+    requires few { length (concat (pattern_of setup.now)) ≤ 33554432 }
+    ensures ok { IfOk result (λ targets. SystemTexts mode (seen options.now) setup.now (Ok (map seen_target targets.items))) }
+    ensures ends { IfErr result (EndsIn (SystemTexts mode (seen options.now) setup.now)) }
+{
+    let rows = match sum_rows_by_pipeline(rt, alloc, mode, options, setup, gate) {
         Ok(rows) => rows,
         Err(ending) => return Err(ending),
     };
-    finish(alloc, mode, options, &setup, rows)
+    finish(alloc, mode, options, setup, rows)
 }
 
-// Sets up. The mesh and the problem that the texts say are freed during it.
-fn prepare<R: Threads + Sync>(
+/// Sets up. The mesh and the problem that the texts say are freed during it.
+pub(crate) fn prepare<R: Threads + Sync>(
     rt: &R,
     alloc: Global,
     options: &Options,
@@ -94,6 +127,23 @@ fn prepare<R: Threads + Sync>(
 {
     let (parts, problem) = read;
     set_up(rt, alloc, parts, problem, flags_of(options))
+}
+
+/// Sets up on a refined mesh, with the node ids of the mesh text.
+pub(crate) fn prepare_on<R: Threads + Sync>(
+    rt: &R,
+    alloc: Global,
+    options: &Options,
+    ids: &[u32],
+    problem: Problem,
+    forest: Forest,
+) -> Result<Setup, Ending>
+    requires ids { length ids.now ≤ 2 ^ 20 }
+    ensures ok { IfOk result (λ setup. SetUpOn (meaning.flags_of (seen options.now)) ids.now problem forest (Ok setup)) }
+    ensures few { IfOk result (λ setup. length (concat (pattern_of setup)) ≤ 33554432) }
+    ensures ends { IfErr result (EndsIn (SetUpOn (meaning.flags_of (seen options.now)) ids.now problem forest)) }
+{
+    set_up_on(rt, alloc, ids, forest, problem, flags_of(options))
 }
 
 // The texts of sums.

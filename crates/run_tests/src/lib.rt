@@ -13,3 +13,5 @@ mod runs;
 mod stores;
 #[cfg(test)]
 mod texts;
+#[cfg(test)]
+mod vectors;

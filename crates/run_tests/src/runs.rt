@@ -16,7 +16,7 @@ use std::thread::Threads;
 
 // Which call is made: one of the two, or that which chooses between them.
 #[derive(Clone, Copy)]
-enum Top {
+pub(crate) enum Top {
     Plain,
     Waiting,
     Chosen,
@@ -27,23 +27,23 @@ const TOPS: [Top; 2] = [Top::Plain, Top::Waiting];
 
 // What stands after a run.
 #[derive(Drop)]
-struct After {
-    status: u8,
-    store: MemoryStore,
-    out: MemorySink,
-    err: MemorySink,
+pub(crate) struct After {
+    pub(crate) status: u8,
+    pub(crate) store: MemoryStore,
+    pub(crate) out: MemorySink,
+    pub(crate) err: MemorySink,
 }
 
 impl After {
     // Whether the run ended so, with this text on standard output and this line on the diagnostics.
-    fn is(&self, status: u8, text: &str, line: &str) -> bool {
+    pub(crate) fn is(&self, status: u8, text: &str, line: &str) -> bool {
         self.status == status
             && self.out.taken() == text.as_bytes()
             && self.err.taken() == line.as_bytes()
     }
 
     // Whether the store and standard output had so many calls, and no call followed a failed one.
-    fn had_calls(&self, calls: u64, puts: u64) -> bool {
+    pub(crate) fn had_calls(&self, calls: u64, puts: u64) -> bool {
         let store = self.store.counts();
         let out = self.out.counts();
         store.calls == calls
@@ -54,7 +54,7 @@ impl After {
     }
 
     // Whether this line stands on standard output.
-    fn has_line(&self, line: &str) -> bool {
+    pub(crate) fn has_line(&self, line: &str) -> bool {
         self.out
             .taken()
             .split(|byte| *byte == b'\n')
@@ -72,7 +72,7 @@ impl After {
 }
 
 // The words that blanks part.
-fn words_of(alloc: Global, line: &str) -> Option<Vec<String>> {
+pub(crate) fn words_of(alloc: Global, line: &str) -> Option<Vec<String>> {
     let mut words = Vec::new(alloc);
     for word in line.split_whitespace() {
         words.push(String::from_str(alloc, word).ok()?).ok()?;
@@ -80,7 +80,12 @@ fn words_of(alloc: Global, line: &str) -> Option<Vec<String>> {
     Some(words)
 }
 
-fn store_of(alloc: Global, mesh: &str, problem: &str, failing: Failing) -> Option<MemoryStore> {
+pub(crate) fn store_of(
+    alloc: Global,
+    mesh: &str,
+    problem: &str,
+    failing: Failing,
+) -> Option<MemoryStore> {
     let reads = vec![in alloc; failing.read].ok()?;
     let writes = vec![in alloc; failing.write].ok()?;
     let mut store = MemoryStore::new(alloc, reads, writes);
@@ -90,13 +95,13 @@ fn store_of(alloc: Global, mesh: &str, problem: &str, failing: Failing) -> Optio
     Some(store)
 }
 
-fn sink_of(alloc: Global, room: usize, failing: u64) -> Option<MemorySink> {
+pub(crate) fn sink_of(alloc: Global, room: usize, failing: u64) -> Option<MemorySink> {
     MemorySink::new(alloc, room, vec![in alloc; failing].ok()?).ok()
 }
 
 // Makes the call. (There is no clause to prove.)
 #[tactic(none)]
-fn call<R: Runtime + Threads + Wait + Sync, S: Store>(
+pub(crate) fn call<R: Runtime + Threads + Wait + Sync, S: Store>(
     rt: &R,
     alloc: Global,
     top: Top,

@@ -1,4 +1,4 @@
--- The faults of mesh texts end their reading.
+-- The faults of mesh texts and of the text of a vector end their reading.
 use Rattle.std.proofs.Common.{◌≡◌, sym, refl, subst, ℕ, ◌≤◌, List, length, inl, inr}
 use Rattle.std.specs.Prelude.{◌^◌}
 use Rattle.fem_fixed.specs.Mesh.{Mesh}
@@ -13,10 +13,15 @@ use Rattle.msh_read.specs.declared.fault.MshKind.TheVariants as msh
 use Rattle.msh_read.specs.Faults as msh_faults
 use Rattle.msh_read.specs.Faults.{MshFault}
 use Rattle.msh_read.specs.Msh.{MshFaultAt}
+use Rattle.fem_text.specs.declared.fault.TextFault.{TextFault}
+use Rattle.matrix_market.specs.declared.fault.MarketKind.{MarketKind}
+use Rattle.matrix_market.specs.declared.fault.MarketKind.TheVariants as market
+use Rattle.matrix_market.specs.Market.{VectorFaultAt}
+use Rattle.matrix_market.specs.Market as markets
 use Rattle.diagnostics.specs.declared.ending.Ending.{Ending}
 use Rattle.diagnostics.specs.Stages.{EndsIn}
-use Rattle.run_texts.specs.Endings.{of_ucd, of_msh}
-use Rattle.run_texts.specs.Texts.{UcdMesh, MshMesh}
+use Rattle.run_texts.specs.Endings.{of_ucd, of_msh, of_vector_text}
+use Rattle.run_texts.specs.Texts.{UcdMesh, MshMesh, VectorIn}
 
 ucd_kind_ends : (text : List ℕ) (kind : UcdKind) (line : ℕ) → UcdFaultAt text kind line → EndsIn (UcdMesh text) (of_ucd kind line)
 ucd_kind_ends text ucd.Header line h = (record { kind = ucd.Header; line = line }, h, refl)
@@ -64,3 +69,20 @@ msh_ends text fault e is h = subst (EndsIn (MshMesh text)) (sym is) (msh_said te
 -- a mesh has as many ids as points
 pub ids_few : (mesh : Mesh) → IsBounded mesh → length mesh.ids ≤ 2 ^ 20
 ids_few mesh bounded = subst (λ n. n ≤ 2 ^ 20) (sym bounded.whole) bounded.points
+
+vector_kind_ends : (text : List ℕ) (kind : MarketKind) (line : ℕ) → VectorFaultAt text kind line → EndsIn (VectorIn text) (of_vector_text kind line)
+vector_kind_ends text market.Banner line h = (record { kind = market.Banner; line = line }, h, refl)
+vector_kind_ends text market.Size line h = (record { kind = market.Size; line = line }, h, refl)
+vector_kind_ends text market.Entry line h = (record { kind = market.Entry; line = line }, h, refl)
+vector_kind_ends text market.TooFew line h = (record { kind = market.TooFew; line = line }, h, refl)
+vector_kind_ends text market.NoMemory line h = tt
+
+vector_said : (text : List ℕ) (fault : TextFault MarketKind) → markets.NoMemoryOr fault (VectorFaultAt text fault.kind fault.line) →
+    EndsIn (VectorIn text) (of_vector_text fault.kind fault.line)
+vector_said text fault (inl e) = subst (λ (f : TextFault MarketKind). EndsIn (VectorIn text) (of_vector_text f.kind f.line)) (sym e) tt
+vector_said text fault (inr h) = vector_kind_ends text fault.kind fault.line h
+
+-- a fault of the text of a vector
+pub vector_ends : (text : List ℕ) (fault : TextFault MarketKind) (e : Ending) → e ≡ of_vector_text fault.kind fault.line →
+    markets.NoMemoryOr fault (VectorFaultAt text fault.kind fault.line) → EndsIn (VectorIn text) e
+vector_ends text fault e is h = subst (EndsIn (VectorIn text)) (sym is) (vector_said text fault h)

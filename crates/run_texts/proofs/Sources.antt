@@ -19,7 +19,7 @@ use Rattle.diagnostics.specs.Stages.{Then, stops, goes}
 use Rattle.diagnostics.specs.Stages as stages
 use Rattle.grid_texts.specs.Grid as grid
 use Rattle.run_texts.specs.Texts.{Texts, StandsUnder, ProblemStands, MeshOf, ProblemOf}
-use Rattle.run_texts.specs.Read.{MeshUnder, ProblemUnder, EndsIn, EndsProblem, SourceRead, GoesOnTo, EndsReading, ReadsMade, after_read, reads_before, name_count, is_read_fault}
+use Rattle.run_texts.specs.Read.{MeshUnder, ProblemUnder, EndsIn, EndsProblem, SourceRead, GoesOnTo, EndsReading, SourceReads, after_read, reads_before, name_count, is_read_fault}
 
 -- what a text that isn't read may be
 some_text : (holds : Option Held) (name : List ℕ) → (known : Option (List ℕ)) × StandsUnder holds name known
@@ -66,9 +66,9 @@ one_of_them name = omega arith
 
 -- the read of the mesh alone
 pub mesh_reads : (X : Type 0) (step : Result Mesh Refusal → Type 0) (mesh : List ℕ) (format : Format) (name : Option (List ℕ)) (e : Ending) (before now : Counts) → EndsIn roles.Mesh step e →
-    now ≡ after_call (is_read_fault {X = X} (Err e)) before → ReadsMade {X = X} (texts mesh format name) (Err e) before now
+    now ≡ after_call (is_read_fault {X = X} (Err e)) before → SourceReads {X = X} (texts mesh format name) (Err e) before now
 mesh_reads X step mesh format name (Refused refusal) before now h is = (1, one_of_them name, is)
-mesh_reads X step mesh format name (ReadFault role) before now h is = subst (λ r. now ≡ after_call true (after_good (reads_before r) before)) (sym h) is
+mesh_reads X step mesh format name (ReadFault role) before now h is = subst (λ r. now ≡ after_call true (after_good (reads_before (texts mesh format name) r) before)) (sym h) is
 mesh_reads X step mesh format name (WriteFault output) before now h is = absurd h
 mesh_reads X step mesh format name NoMemory before now h is = (1, one_of_them name, is)
 
@@ -79,7 +79,7 @@ both_reads (Some name) before middle now first is = is ∙ ap (after_call false)
 
 -- where it failed
 failed_behind : (name : Option (List ℕ)) (before middle now : Counts) → is_some name ≡ true → middle ≡ after_call false before → now ≡ after_read name true middle →
-    now ≡ after_call true (after_good (reads_before roles.Problem) before)
+    now ≡ after_call true (after_good 1 before)
 failed_behind None before middle now named first is = cc
 failed_behind (Some name) before middle now named first is = is ∙ ap (after_call true) first
 
@@ -88,15 +88,15 @@ all_of_them n = omega arith
 
 -- and where the problem ends the reading
 pub problem_reads : (X : Type 0) (holds : Option Held) (mesh : List ℕ) (format : Format) (name : Option (List ℕ)) (e : Ending) (before middle now : Counts) → EndsProblem holds name e →
-    middle ≡ after_call false before → now ≡ after_read name (is_read_fault {X = X} (Err e)) middle → ReadsMade {X = X} (texts mesh format name) (Err e) before now
+    middle ≡ after_call false before → now ≡ after_read name (is_read_fault {X = X} (Err e)) middle → SourceReads {X = X} (texts mesh format name) (Err e) before now
 problem_reads X holds mesh format name (Refused refusal) before middle now h first is = (suc (name_count name), all_of_them (suc (name_count name)), both_reads name before middle now first is)
 problem_reads X holds mesh format name (ReadFault role) before middle now (problem, named) first is =
-    subst (λ r. now ≡ after_call true (after_good (reads_before r) before)) (sym problem) (failed_behind name before middle now named first is)
+    subst (λ r. now ≡ after_call true (after_good (reads_before (texts mesh format name) r) before)) (sym problem) (failed_behind name before middle now named first is)
 problem_reads X holds mesh format name (WriteFault output) before middle now h first is = absurd h
 problem_reads X holds mesh format name NoMemory before middle now h first is = (suc (name_count name), all_of_them (suc (name_count name)), both_reads name before middle now first is)
 
 -- no read is made for a drawn grid
-pub drawn_reads : {X : Type 0} (n seed : ℕ) (result : Result X Ending) (counts : Counts) → is_read_fault result ≡ false → ReadsMade (generated n seed) result counts counts
+pub drawn_reads : {X : Type 0} (n seed : ℕ) (result : Result X Ending) (counts : Counts) → is_read_fault result ≡ false → SourceReads (generated n seed) result counts counts
 drawn_reads n seed (Ok value) counts never = refl
 drawn_reads n seed (Err (Refused refusal)) counts never = (0, lit≤ tt, refl)
 drawn_reads n seed (Err (ReadFault role)) counts never = cc

@@ -1,4 +1,4 @@
--- The faults of the two texts as endings of a run: a refusal, or want of memory.
+-- The faults of the texts as endings of a run: a refusal, or want of memory.
 use Rattle.std.specs.Prelude.{ℕ}
 use Rattle.ucd_read.specs.declared.fault.UcdKind.{UcdKind}
 use Rattle.ucd_read.specs.declared.fault.UcdKind.TheVariants as ucd
@@ -6,10 +6,14 @@ use Rattle.msh_read.specs.declared.fault.MshKind.{MshKind}
 use Rattle.msh_read.specs.declared.fault.MshKind.TheVariants as msh
 use Rattle.problem_read.specs.declared.fault.ProblemKind.{ProblemKind}
 use Rattle.problem_read.specs.declared.fault.ProblemKind.TheVariants as problem
+use Rattle.matrix_market.specs.declared.fault.MarketKind.{MarketKind}
+use Rattle.matrix_market.specs.declared.fault.MarketKind.TheVariants as market
+use Rattle.diagnostics.specs.declared.kinds.VectorTextKind.TheVariants as vector_texts
+use Rattle.diagnostics.specs.declared.kinds.VectorFault.TheVariants.{Text}
 use Rattle.diagnostics.specs.declared.kinds.MeshTextKind.TheVariants as mesh_texts
 use Rattle.diagnostics.specs.declared.kinds.ProblemTextKind.TheVariants as problem_texts
 use Rattle.diagnostics.specs.declared.kinds.LimitKind.TheVariants.{MeshCount, ProblemCount}
-use Rattle.diagnostics.specs.declared.refusal.Refusal.TheVariants.{MeshText, ProblemText, Limit}
+use Rattle.diagnostics.specs.declared.refusal.Refusal.TheVariants.{MeshText, ProblemText, Limit, Vector}
 use Rattle.diagnostics.specs.declared.ending.Ending.{Ending}
 use Rattle.diagnostics.specs.declared.ending.Ending.TheVariants.{Refused, NoMemory}
 
@@ -44,3 +48,10 @@ of_problem_text problem.Number line = Refused (ProblemText problem_texts.Number 
 of_problem_text problem.Repeated line = Refused (ProblemText problem_texts.Repeated line)
 of_problem_text problem.Limit line = Refused (Limit (ProblemCount line))
 of_problem_text problem.NoMemory line = NoMemory
+
+abbrev pub of_vector_text : MarketKind → ℕ → Ending
+of_vector_text market.Banner line = Refused (Vector (Text vector_texts.Banner line))
+of_vector_text market.Size line = Refused (Vector (Text vector_texts.Size line))
+of_vector_text market.Entry line = Refused (Vector (Text vector_texts.Entry line))
+of_vector_text market.TooFew line = Refused (Vector (Text vector_texts.TooFew line))
+of_vector_text market.NoMemory line = NoMemory

@@ -1,5 +1,5 @@
--- How the reading of the texts of a source goes.
-use Rattle.std.specs.Prelude.{◌≡◌, ℕ, suc, ◌≤◌, List, Bool, true, false, Some, None, IsSome, Ok, Err}
+-- How the reading of the texts of a source goes, and of the text of a vector behind them.
+use Rattle.std.specs.Prelude.{◌≡◌, ℕ, ℤ, suc, ◌≤◌, List, Bool, true, false, Some, None, IsSome, Ok, Err}
 use Rattle.std.specs.declared.option.Option.{Option}
 use Rattle.std.specs.declared.result.Result.{Result}
 use Rattle.fem_fixed.specs.Mesh.{Mesh}
@@ -14,7 +14,7 @@ use Rattle.diagnostics.specs.declared.ending.Role.{Role}
 use Rattle.diagnostics.specs.declared.ending.Role.TheVariants as roles
 use Rattle.diagnostics.specs.declared.ending.Ending.{Ending}
 use Rattle.diagnostics.specs.declared.ending.Ending.TheVariants.{Refused, ReadFault, WriteFault, NoMemory}
-use Rattle.run_texts.specs.Texts.{Texts, StandsUnder, ProblemStands, TextFor, MeshOf, ProblemOf, AreTextsOf, ReadTexts}
+use Rattle.run_texts.specs.Texts.{Texts, StandsUnder, ProblemStands, TextFor, MeshOf, ProblemOf, VectorOf, AreTextsOf, ReadTexts}
 
 -- the text under a name
 abbrev pub TextUnder : Role → Option Held → List ℕ → Result (List ℕ) Refusal → Type 0
@@ -27,6 +27,10 @@ MeshUnder holds name format outcome = (known : Option (List ℕ)) × StandsUnder
 -- the problem of the text under a name, if there is a name
 abbrev pub ProblemUnder : Option Held → Option (List ℕ) → Result ProblemParts Refusal → Type 0
 ProblemUnder holds name outcome = (known : Option (List ℕ)) × ProblemStands holds name known × ProblemOf known outcome
+
+-- the values of the text of a vector under a name
+abbrev pub VectorUnder : Option Held → List ℕ → Result (List ℤ) Refusal → Type 0
+VectorUnder holds name outcome = (known : Option (List ℕ)) × StandsUnder holds name known × VectorOf known outcome
 
 -- the mesh and the problem of a source
 abbrev pub SourceRead : Option Held → Source → Result (Mesh × ProblemParts) Refusal → Type 0
@@ -46,11 +50,12 @@ EndsProblem holds name (ReadFault other) = (other ≡ roles.Problem) × IsSome n
 EndsProblem holds name (WriteFault output) = ⊥
 EndsProblem holds name NoMemory = Unit {0}
 
--- nothing is refused before this text is read
+-- this text is read for a source, and nothing is refused before
 abbrev pub GoesOnTo : Option Held → Source → Role → Type 0
 GoesOnTo holds (texts mesh format problem) roles.Mesh = Unit {0}
 GoesOnTo holds (texts mesh format (Some problem)) roles.Problem = (parts : Mesh) × MeshUnder holds mesh format (Ok parts)
 GoesOnTo holds (texts mesh format None) roles.Problem = ⊥
+GoesOnTo holds (texts mesh format problem) roles.Vector = ⊥
 GoesOnTo holds (generated n seed) role = ⊥
 
 -- the reading of a source ends so
@@ -77,24 +82,29 @@ names_in (texts mesh format problem) = suc (name_count problem)
 names_in (generated n seed) = 0
 
 -- how many reads come before that of this text
-abbrev pub reads_before : Role → ℕ
-reads_before roles.Mesh = 0
-reads_before roles.Problem = 1
+abbrev pub reads_before : Source → Role → ℕ
+reads_before source roles.Mesh = 0
+reads_before source roles.Problem = 1
+reads_before source roles.Vector = names_in source
 
 -- after the read under a name, which failed or didn't; none is made where there is no name
 abbrev pub after_read : Option (List ℕ) → Bool → Counts → Counts
 after_read None failed before = before
 after_read (Some name) failed before = after_call failed before
 
--- some of the reads that a source names were made, and all went well
-abbrev pub SomeRead : Source → Counts → Counts → Type 0
-SomeRead source before now = (k : ℕ) × (k ≤ names_in source) × (now ≡ after_good k before)
+-- some of so many reads were made, and all went well
+abbrev pub SomeRead : ℕ → Counts → Counts → Type 0
+SomeRead all before now = (k : ℕ) × (k ≤ all) × (now ≡ after_good k before)
 
--- the reads of a source that were made, by how their step ended: it is done, and all went well; that of this text failed,
--- behind those before it, which went well; or it stopped otherwise, and some went well
-abbrev pub ReadsMade : {X : Type 0} → Source → Result X Ending → Counts → Counts → Type 0
-ReadsMade source (Ok value) before now = now ≡ after_good (names_in source) before
-ReadsMade source (Err (ReadFault role)) before now = now ≡ after_call true (after_good (reads_before role) before)
-ReadsMade source (Err (Refused refusal)) before now = SomeRead source before now
-ReadsMade source (Err (WriteFault output)) before now = SomeRead source before now
-ReadsMade source (Err NoMemory) before now = SomeRead source before now
+-- so many reads are to be made, of a source and behind it: those that were made, by how their step ended. It is done, and all
+-- went well; that of this text failed, behind those before it, which went well; or it stopped otherwise, and some went well.
+abbrev pub ReadsMade : {X : Type 0} → ℕ → Source → Result X Ending → Counts → Counts → Type 0
+ReadsMade all source (Ok value) before now = now ≡ after_good all before
+ReadsMade all source (Err (ReadFault role)) before now = now ≡ after_call true (after_good (reads_before source role) before)
+ReadsMade all source (Err (Refused refusal)) before now = SomeRead all before now
+ReadsMade all source (Err (WriteFault output)) before now = SomeRead all before now
+ReadsMade all source (Err NoMemory) before now = SomeRead all before now
+
+-- the reads of a source alone
+abbrev pub SourceReads : {X : Type 0} → Source → Result X Ending → Counts → Counts → Type 0
+SourceReads source result before now = ReadsMade (names_in source) source result before now

@@ -1,5 +1,5 @@
 -- The texts of a run, and the mesh and the problem that they are of.
-use Rattle.std.specs.Prelude.{◌≡◌, ℕ, ◌<◌, ◌≤◌, List, [], length, Some, None, IsSome, Ok, Err}
+use Rattle.std.specs.Prelude.{◌≡◌, ℕ, ℤ, ◌<◌, ◌≤◌, List, [], length, Some, None, IsSome, Ok, Err}
 use Rattle.std.specs.declared.option.Option.{Option}
 use Rattle.std.specs.declared.result.Result.{Result}
 use Rattle.fem_fixed.specs.Mesh.{Mesh}
@@ -12,6 +12,8 @@ use Rattle.problem_read.specs.declared.fault.ProblemKind.{ProblemKind}
 use Rattle.problem_read.specs.Entries.{ProblemParts}
 use Rattle.problem_read.specs.Problem.{ProblemText, ProblemFaultAt}
 use Rattle.fem_text.specs.declared.fault.TextFault.{TextFault}
+use Rattle.matrix_market.specs.declared.fault.MarketKind.{MarketKind}
+use Rattle.matrix_market.specs.Market.{VectorText, VectorFaultAt}
 use Rattle.grid_texts.specs.Grid as grid
 use Rattle.run_words.specs.declared.options.Format.{Format}
 use Rattle.run_words.specs.declared.options.Format.TheVariants as formats
@@ -19,10 +21,10 @@ use Rattle.run_words.specs.Choice.{Source, texts, generated}
 use Rattle.diagnostics.specs.declared.ending.Role.{Role}
 use Rattle.diagnostics.specs.declared.ending.Role.TheVariants as roles
 use Rattle.diagnostics.specs.declared.kinds.LimitKind.{LimitKind}
-use Rattle.diagnostics.specs.declared.kinds.LimitKind.TheVariants.{MeshSize, ProblemSize}
+use Rattle.diagnostics.specs.declared.kinds.LimitKind.TheVariants.{MeshSize, ProblemSize, VectorSize}
 use Rattle.diagnostics.specs.declared.refusal.Refusal.{Refusal}
 use Rattle.diagnostics.specs.declared.refusal.Refusal.TheVariants.{Absent, Limit}
-use Rattle.run_texts.specs.Endings.{of_ucd, of_msh, of_problem_text}
+use Rattle.run_texts.specs.Endings.{of_ucd, of_msh, of_problem_text, of_vector_text}
 use Rattle.diagnostics.specs.Stages.{Then, Says}
 
 -- the greatest length of a text
@@ -52,6 +54,7 @@ AreTextsOf holds (generated n seed) known = (known.mesh ≡ Some (grid.mesh_text
 abbrev pub size_limit : Role → LimitKind
 size_limit roles.Mesh = MeshSize
 size_limit roles.Problem = ProblemSize
+size_limit roles.Vector = VectorSize
 
 -- the text, or that it is absent or too long
 abbrev pub TextFor : Role → Option (List ℕ) → Result (List ℕ) Refusal → Type 0
@@ -80,11 +83,20 @@ ProblemIn text (Ok problem) = ProblemText text problem
 ProblemIn text (Err refusal) =
     Says (λ (fault : TextFault ProblemKind). of_problem_text fault.kind fault.line) (λ (fault : TextFault ProblemKind). ProblemFaultAt text fault.kind fault.line) refusal
 
+-- the values of the text of a vector, or its first fault
+abbrev pub VectorIn : List ℕ → Result (List ℤ) Refusal → Type 0
+VectorIn text (Ok values) = VectorText text values
+VectorIn text (Err refusal) =
+    Says (λ (fault : TextFault MarketKind). of_vector_text fault.kind fault.line) (λ (fault : TextFault MarketKind). VectorFaultAt text fault.kind fault.line) refusal
+
 abbrev pub MeshOf : Format → Option (List ℕ) → Result Mesh Refusal → Type 0
 MeshOf format known = Then (TextFor roles.Mesh known) (MeshIn format)
 
 abbrev pub ProblemOf : Option (List ℕ) → Result ProblemParts Refusal → Type 0
 ProblemOf known = Then (TextFor roles.Problem known) ProblemIn
+
+abbrev pub VectorOf : Option (List ℕ) → Result (List ℤ) Refusal → Type 0
+VectorOf known = Then (TextFor roles.Vector known) VectorIn
 
 -- the mesh and then the problem
 abbrev pub ReadTexts : Format → Texts → Result (Mesh × ProblemParts) Refusal → Type 0

@@ -1,8 +1,11 @@
-//! The faults of the two texts as endings of a run.
+//! The faults of the texts as endings of a run.
 ghost use Rattle.std.specs.Prelude.{◌≡◌};
-ghost use Rattle.run_texts.specs.Endings.{of_ucd, of_msh, of_problem_text};
+ghost use Rattle.run_texts.specs.Endings.{of_ucd, of_msh, of_problem_text, of_vector_text};
 
-use diagnostics::{Ending, LimitKind, MeshTextKind, ProblemTextKind, Refusal};
+use diagnostics::{
+    Ending, LimitKind, MeshTextKind, ProblemTextKind, Refusal, VectorFault, VectorTextKind,
+};
+use matrix_market::{MarketFault, MarketKind};
 use msh_read::{MshFault, MshKind};
 use problem_read::{ProblemFault, ProblemKind};
 use ucd_read::{UcdFault, UcdKind};
@@ -64,4 +67,18 @@ pub(crate) fn problem_text_ending(fault: ProblemFault) -> Ending
         ProblemKind::NoMemory => return Ending::NoMemory,
     };
     Ending::Refused(Refusal::ProblemText(kind, fault.line))
+}
+
+/// How a run ends whose text of a vector has this fault.
+pub(crate) fn vector_text_ending(fault: MarketFault) -> Ending
+    ensures { result ≡ of_vector_text fault.kind fault.line }
+{
+    let kind = match fault.kind {
+        MarketKind::Banner => VectorTextKind::Banner,
+        MarketKind::Size => VectorTextKind::Size,
+        MarketKind::Entry => VectorTextKind::Entry,
+        MarketKind::TooFew => VectorTextKind::TooFew,
+        MarketKind::NoMemory => return Ending::NoMemory,
+    };
+    Ending::Refused(Refusal::Vector(VectorFault::Text(kind, fault.line)))
 }

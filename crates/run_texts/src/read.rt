@@ -25,6 +25,7 @@ fn size_limit(role: Role) -> LimitKind
     match role {
         Role::Mesh => LimitKind::MeshSize,
         Role::Problem => LimitKind::ProblemSize,
+        Role::Vector => LimitKind::VectorSize,
     }
 }
 

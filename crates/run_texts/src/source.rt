@@ -3,7 +3,7 @@ ghost use Rattle.std.specs.Option.{option_copied};
 ghost use Rattle.ucd_read.specs.Bounds.{IsBounded};
 ghost use Rattle.run_words.specs.Choice.{seen_source, texts, generated};
 ghost use Rattle.run_words.specs.Ranges.{IsOfSize};
-ghost use Rattle.run_texts.specs.Read.{SourceRead, EndsReading, ReadsMade, is_read_fault};
+ghost use Rattle.run_texts.specs.Read.{SourceRead, EndsReading, SourceReads, is_read_fault};
 
 use crate::read::{mesh_of, problem_of, read_mesh, read_named_problem};
 use diagnostics::Ending;
@@ -32,7 +32,7 @@ pub fn read_source<S: Store>(
     ensures ids { IfOk result (λ read. length read.0.ids ≤ 2 ^ 20) }
     ensures ends { IfErr result (EndsReading (S.holds store.old) (seen_source source.entry)) }
     ensures same { S.holds store.new ≡ S.holds store.old }
-    ensures calls { ReadsMade (seen_source source.entry) result (S.counts store.old) (S.counts store.new) }
+    ensures calls { SourceReads (seen_source source.entry) result (S.counts store.old) (S.counts store.new) }
 {
     match source {
         Source::Texts {
@@ -57,7 +57,7 @@ fn read_both<S: Store>(
     ensures ids { IfOk result (λ read. length read.0.ids ≤ 2 ^ 20) }
     ensures ends { IfErr result (EndsReading (S.holds store.old) (texts mesh.now format (option_copied problem.entry))) }
     ensures same { S.holds store.new ≡ S.holds store.old }
-    ensures calls { ReadsMade (texts mesh.now format (option_copied problem.entry)) result (S.counts store.old) (S.counts store.new) }
+    ensures calls { SourceReads (texts mesh.now format (option_copied problem.entry)) result (S.counts store.old) (S.counts store.new) }
 {
     let parts = match read_mesh(alloc, mesh, format, store) {
         Ok(parts) => parts,

@@ -52,7 +52,7 @@ no_settings (setting ∷ settings) none =
     let e = sym (first_setting-words_of setting (flat_map words_of settings)) ∙ ap first_setting none in cc
 
 -- words have one list of settings at most
-settings_are_one : (settings others : List Setting) → flat_map words_of settings ≡ flat_map words_of others → settings ≡ others
+pub settings_are_one : (settings others : List Setting) → flat_map words_of settings ≡ flat_map words_of others → settings ≡ others
 settings_are_one settings others is =
     let further = cut_further settings others [] (append-nil (flat_map words_of settings) ∙ is) in
     sym (further.1 ∙ ap (λ more. settings ++ more) (no_settings further.0 (sym further.2)) ∙ append-nil settings)

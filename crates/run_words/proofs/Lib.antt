@@ -2,7 +2,10 @@ pub mod Asked
 pub mod Begun
 pub mod Cuts
 pub mod NamedModes
+pub mod JobWords
 pub mod Places
+pub mod Numbers
+pub mod Modes
 pub mod Rules
 pub mod SomeWords
 pub mod Taking

@@ -2,13 +2,13 @@
 use Rattle.std.proofs.Common.{◌≡◌, ◌∙◌, ap, sym, subst, ℕ, List, [], ◌∷◌, ◌++◌, Bool, true, false, cond, refl, inl, inr, append_assoc, map, length, ◌<◌, arith}
 use Rattle.run_words.proofs.Rules.{and_false}
 use Rattle.run_words.specs.declared.name.Name.TheVariants as names
-use Rattle.run_words.specs.declared.options.Mode.{Mode}
-use Rattle.run_words.specs.declared.options.Mode.TheVariants as modes
+use Rattle.run_words.specs.declared.mode.ModeName.{ModeName}
+use Rattle.run_words.specs.declared.mode.ModeName.TheVariants as modes
 use Rattle.run_words.specs.declared.options.SystemMode.TheVariants as systems
-use Rattle.run_words.specs.Settings.{Setting, apart, joined, alone, words_of, values_of, first_of}
+use Rattle.run_words.specs.Settings.{Setting, apart, joined, alone, words_of, values_of, first_of, given_by}
 use Rattle.run_words.specs.Names.{spelled, same_name}
 use Rattle.run_words.specs.Values.{system_mode_of, mode_of}
-use Rattle.run_words.specs.Choice.{Choice, named_or}
+use Rattle.run_words.specs.Choice.{Choice, of_system, mode_from, mode_name_in, named_or}
 use Rattle.std.specs.Prelude.{Some, None, codes, ◌&&◌, ◌||◌, ◌⊎◌, ◌↔◌, IsTrue, unwrap_or}
 use Rattle.std.specs.declared.option.Option.{Option}
 use Rattle.std.specs.List.{flat_map, cons_option}
@@ -127,32 +127,44 @@ mode_stands (joined name own ∷ settings) value is =
     ]) refl is
 
 -- the mode of a word that is these names or not
-abbrev chosen_by : Bool → Bool → Bool → Bool → Bool → Bool → Option Mode
-chosen_by mesh a b c d e =
-    cond mesh (Some modes.Mesh)
-    (option_map modes.System (cond a (Some systems.Serial) (cond b (Some systems.Ordered) (cond c (Some systems.Colored) (cond d (Some systems.Pattern) (cond e (Some systems.Colors) None))))))
+abbrev chosen_by : Bool → Bool → Bool → Bool → Bool → Bool → Bool → Bool → Bool → Option ModeName
+chosen_by mesh product marks adapt a b c d e =
+    cond mesh (Some modes.Mesh) (cond product (Some modes.Product) (cond marks (Some modes.Marks) (cond adapt (Some modes.Adapt)
+    (option_map modes.System (cond a (Some systems.Serial) (cond b (Some systems.Ordered) (cond c (Some systems.Colored) (cond d (Some systems.Pattern) (cond e (Some systems.Colors) None)))))))))
 
-only_ordered : (mesh a b c d e : Bool) → unwrap_or (chosen_by mesh a b c d e) (modes.System systems.Serial) ≡ modes.System systems.Ordered → b ≡ true
-only_ordered true a b c d e is = cc
-only_ordered false true b c d e is = cc
-only_ordered false false true c d e is = refl
-only_ordered false false false true d e is = cc
-only_ordered false false false false true e is = cc
-only_ordered false false false false false true is = cc
-only_ordered false false false false false false is = cc
+only_ordered : (mesh product marks adapt a b c d e : Bool) → unwrap_or (chosen_by mesh product marks adapt a b c d e) (modes.System systems.Serial) ≡ modes.System systems.Ordered → b ≡ true
+only_ordered true product marks adapt a b c d e is = cc
+only_ordered false true marks adapt a b c d e is = cc
+only_ordered false false true adapt a b c d e is = cc
+only_ordered false false false true a b c d e is = cc
+only_ordered false false false false true b c d e is = cc
+only_ordered false false false false false true c d e is = refl
+only_ordered false false false false false false true d e is = cc
+only_ordered false false false false false false false true e is = cc
+only_ordered false false false false false false false false true is = cc
+only_ordered false false false false false false false false false is = cc
 
 ordered_value : (word : List ℕ) → unwrap_or (mode_of word) (modes.System systems.Serial) ≡ modes.System systems.Ordered → word ≡ codes "ordered"
 unfolding mode_of system_mode_of
 ordered_value word is =
     equal word (codes "ordered")
-    (only_ordered (bytes_eq word (codes "mesh")) (bytes_eq word (codes "serial")) (bytes_eq word (codes "ordered")) (bytes_eq word (codes "colored")) (bytes_eq word (codes "pattern"))
-    (bytes_eq word (codes "colors")) is)
+    (only_ordered (bytes_eq word (codes "mesh")) (bytes_eq word (codes "product")) (bytes_eq word (codes "marks")) (bytes_eq word (codes "adapt")) (bytes_eq word (codes "serial"))
+    (bytes_eq word (codes "ordered")) (bytes_eq word (codes "colored")) (bytes_eq word (codes "pattern")) (bytes_eq word (codes "colors")) is)
 
 ordered_given : (value : Option (List ℕ)) → named_or (modes.System systems.Serial) mode_of value ≡ modes.System systems.Ordered → value ≡ Some (codes "ordered")
 ordered_given None is = cc
 ordered_given (Some word) is = ap Some (ordered_value word is)
 
-pub ordered_named : (words : List (List ℕ)) (choice : Choice) → AskFor words choice → choice.mode ≡ modes.System systems.Ordered → NameOrdered words
+-- the mode has this name alone
+named_ordered : (name : ModeName) (vector mark : Option (List ℕ)) → mode_from name vector mark ≡ of_system systems.Ordered → name ≡ modes.System systems.Ordered
+named_ordered (modes.System mode) vector mark is = ap modes.System (let e : mode ≡ systems.Ordered = cc in e)
+named_ordered modes.Mesh vector mark is = cc
+named_ordered modes.Product vector mark is = cc
+named_ordered modes.Marks vector mark is = cc
+named_ordered modes.Adapt vector mark is = cc
+
+pub ordered_named : (words : List (List ℕ)) (choice : Choice) → AskFor words choice → choice.mode ≡ of_system systems.Ordered → NameOrdered words
 ordered_named words choice asked is =
-    subst NameOrdered (sym asked.words_are)
-    (mode_stands asked.settings (codes "ordered") (ordered_given (first_of (values_of asked.settings names.Mode)) (sym (ap (λ (c : Choice). c.mode) asked.choice_is) ∙ is)))
+    let given = given_by asked.settings in
+    let name = named_ordered (mode_name_in given) (given.value names.Vector) (given.value names.Mark) (sym (ap (λ (c : Choice). c.mode) asked.choice_is) ∙ is) in
+    subst NameOrdered (sym asked.words_are) (mode_stands asked.settings (codes "ordered") (ordered_given (first_of (values_of asked.settings names.Mode)) name))

@@ -3,15 +3,15 @@ use Rattle.std.proofs.Common.{◌≡◌, ◌∙◌, ◌*◌, ap, sym, subst, ℕ
 use Rattle.std.specs.Prelude.{Some, None, is_some, unwrap_or, ◌&&◌, ◌||◌, codes}
 use Rattle.std.specs.Str.{bytes_eq}
 use Rattle.std.proofs.lemmas.Slice.Eq.{bytes_eq-Decides}
-use Rattle.run_words.specs.declared.options.Mode.{Mode}
-use Rattle.run_words.specs.declared.options.Mode.TheVariants as modes
+use Rattle.run_words.specs.declared.mode.ModeName.{ModeName}
+use Rattle.run_words.specs.declared.mode.ModeName.TheVariants as modes
 use Rattle.run_words.specs.declared.options.SystemMode.TheVariants as systems
 use Rattle.run_words.specs.declared.options.Format.{Format}
 use Rattle.run_words.specs.declared.options.Format.TheVariants as formats
 use Rattle.run_words.specs.declared.options.Faces.{Faces}
 use Rattle.run_words.specs.declared.options.Faces.TheVariants as faces
 use Rattle.std.specs.declared.option.Option.{Option}
-use Rattle.std.specs.Option.{option_map, option_and_then}
+use Rattle.std.specs.Option.{option_map}
 use Rattle.std.proofs.lemmas.Option.{cond_some}
 use Rattle.fem_fixed.specs.Numbers.{digits_value, is_id}
 use Rattle.run_words.specs.declared.name.Name.TheVariants as names
@@ -20,43 +20,12 @@ use Rattle.run_words.specs.declared.options.Subdomain.{Subdomain}
 use Rattle.run_words.specs.declared.switch.Switch.TheVariants as switches
 use Rattle.run_words.specs.Settings.{Given}
 use Rattle.run_words.specs.Values.{is_name, is_number_within, mode_of, format_of, faces_of, is_in_set}
-use Rattle.run_words.specs.Choice.{Source, texts, generated, Destination, standard, named, Output, summary, both, destination_of, Choice, number_or, named_or, plan_of, source_of, output_of, subdomain_of, mode_in, format_in, chosen}
+use Rattle.run_words.specs.Choice.{Mode, mode_name_in, Source, texts, generated, Destination, standard, named, Output, summary, both, destination_of, Choice, number_or, plan_of, source_of, output_of, subdomain_of, mode_in, format_in, chosen}
 use Rattle.run_words.specs.Words.{passes, AreInSets, is_standard, are_same, has_sums, is_msh, SourceRules, OutputRules, SubdomainRule, KeepsRules}
-use Rattle.run_words.specs.Reading.{number_within, name_of, read_or, read_plan, two_texts, read_source, read_subdomain, read_destination, is_same_name, two_outputs, read_output, reading, ◌>>=◌}
+use Rattle.run_words.specs.Reading.{number_within, name_of, read_or, read_plan, two_texts, read_source, read_mode, read_subdomain, read_destination, is_same_name, two_outputs, read_output, reading, ◌>>=◌}
 use Rattle.run_words.proofs.Cuts.{then_some}
-
-injected : {X : Type 0} (x y : X) → Some x ≡ Some y → x ≡ y
-injected x y is = cc
-
--- a number
-
-pub number_read : (least greatest default n : ℕ) (value : Option (List ℕ)) → read_or default (number_within least greatest) value ≡ Some n →
-    (passes (is_number_within least greatest) value ≡ true) × (n ≡ number_or default value)
-number_read least greatest default n None read = (refl, (cc))
-number_read least greatest default n (Some word) read =
-    let found = cond_some (is_number_within least greatest word) (digits_value word) n read in
-    (found.0, sym found.1)
-
-pub number_given : (least greatest default : ℕ) (value : Option (List ℕ)) → passes (is_number_within least greatest) value ≡ true →
-    read_or default (number_within least greatest) value ≡ Some (number_or default value)
-number_given least greatest default None in_set = refl
-number_given least greatest default (Some word) in_set = rw in_set refl
-
--- what a value names
-
-pub named_read : {X : Type 0} (find : List ℕ → Option X) (default x : X) (value : Option (List ℕ)) → read_or default find value ≡ Some x →
-    (passes (λ word. is_some (find word)) value ≡ true) × (x ≡ named_or default find value)
-named_read find default x None read = (refl, (cc))
-named_read find default x (Some word) read = rw read (refl, refl)
-
-found_is : {X : Type 0} (found : Option X) (default : X) → is_some found ≡ true → found ≡ Some (unwrap_or found default)
-found_is None default some = cc
-found_is (Some x) default some = refl
-
-pub named_given : {X : Type 0} (find : List ℕ → Option X) (default : X) (value : Option (List ℕ)) → passes (λ word. is_some (find word)) value ≡ true →
-    read_or default find value ≡ Some (named_or default find value)
-named_given find default None in_set = refl
-named_given find default (Some word) in_set = found_is (find word) default in_set
+use Rattle.run_words.proofs.Numbers.{injected, number_read, number_given, named_read, named_given, cond_then}
+use Rattle.run_words.proofs.Modes.{ModeInSets, mode_read, mode_given}
 
 -- the numbers of a plan
 
@@ -111,10 +80,6 @@ plan_given given in_sets =
 pub and_false : (b : Bool) → (b && false) ≡ false
 and_false true = refl
 and_false false = refl
-
-cond_then : {X Y : Type 0} (b : Bool) (x : X) (f : X → Option Y) (y : Y) → option_and_then f (cond b (Some x) None) ≡ Some y → (b ≡ true) × (f x ≡ Some y)
-cond_then true x f y is = (refl, is)
-cond_then false x f y is = cc
 
 cond_else : {X : Type 0} (b : Bool) (x y : X) → cond b None (Some x) ≡ Some y → (b ≡ false) × (x ≡ y)
 cond_else true x y is = cc
@@ -317,14 +282,16 @@ reading_given given in_sets rules =
     let format = named_given format_of formats.Ucd (given.value names.Format) (in_sets names.Format) in
     let source = source_given (given.value names.Mesh) (given.value names.Problem) (given.value names.Generate) (given.value names.Seed) (format_in given)
     (record { mesh_in = in_sets names.Mesh; problem_in = in_sets names.Problem; generate_in = in_sets names.Generate; seed_in = in_sets names.Seed }) rules.source in
+    let task = mode_given (given.value names.Mesh) (given.value names.Problem) (given.value names.Generate) (given.value names.Seed) (format_in given) (mode_name_in given) (given.value names.Vector) (given.value names.Mark)
+    (record { vector_in = in_sets names.Vector; mark_in = in_sets names.Mark }) rules.vector in
     let plan = plan_given given (record { workers = in_sets names.Workers; queue = in_sets names.Queue; chunk = in_sets names.Chunk; scratch = in_sets names.Scratch }) in
     let digits = number_given 0 64 0 (given.value names.Digits) (in_sets names.Digits) in
     let faces = named_given faces_of faces.None (given.value names.Faces) (in_sets names.Faces) in
     let subdomain = subdomain_given (given.value names.Subdomain) (given.value names.Ghost) (given.stands switches.GhostCells)
     (record { subdomain_in = in_sets names.Subdomain; parts_in = in_sets names.Ghost }) rules.subdomain in
-    let output = output_given (given.value names.Matrix) (given.value names.Rhs) (given.stands switches.Summary) (has_sums (mode_in given))
+    let output = output_given (given.value names.Matrix) (given.value names.Rhs) (given.stands switches.Summary) (has_sums (mode_name_in given))
     (record { matrix_in = in_sets names.Matrix; rhs_in = in_sets names.Rhs }) rules.output in
-    rw (mode, format, source, plan, digits, faces, subdomain, output) refl
+    rw (mode, format, source, task, plan, digits, faces, subdomain, output) refl
 
 abbrev put_together : Mode → Source → Plan → ℕ → Faces → Option Subdomain → Output → Choice
 put_together mode source plan digits faces subdomain output = record { mode = mode; source = source; plan = plan; digits = digits; faces = faces; subdomain = subdomain; output = output }
@@ -338,6 +305,7 @@ pub record PartsInSets (given : Given) : Type 0 where
   pub faces_in : passes (λ word. is_some (faces_of word)) (given.value names.Faces) ≡ true
   pub subdomain_in : SubdomainInSets (given.value names.Subdomain) (given.value names.Ghost)
   pub output_in : OutputInSets (given.value names.Matrix) (given.value names.Rhs)
+  pub vector_in : ModeInSets (given.value names.Vector) (given.value names.Mark)
 
 in_all_sets : (given : Given) → PartsInSets given → AreInSets given
 unfolding is_in_set
@@ -357,35 +325,43 @@ in_all_sets given parts names.Seed = parts.source_in.seed_in
 in_all_sets given parts names.Format = parts.format_in
 in_all_sets given parts names.Subdomain = parts.subdomain_in.subdomain_in
 in_all_sets given parts names.Ghost = parts.subdomain_in.parts_in
+in_all_sets given parts names.Vector = parts.vector_in.vector_in
+in_all_sets given parts names.Mark = parts.vector_in.mark_in
 
-chosen_from : (given : Given) (choice : Choice) (m : Mode) (t : Format) (s : Source) (p : Plan) (d : ℕ) (f : Faces) (u : Option Subdomain) (o : Output) →
+chosen_from : (given : Given) (choice : Choice) (m : ModeName) (t : Format) (s : Source) (v : Mode) (p : Plan) (d : ℕ) (f : Faces) (u : Option Subdomain) (o : Output) →
     read_or (modes.System systems.Serial) mode_of (given.value names.Mode) ≡ Some m →
     read_or formats.Ucd format_of (given.value names.Format) ≡ Some t →
     read_source (given.value names.Mesh) (given.value names.Problem) (given.value names.Generate) (given.value names.Seed) t ≡ Some s →
+    read_mode m (given.value names.Vector) (given.value names.Mark) s ≡ Some v →
     read_plan given ≡ Some p →
     read_or 0 (number_within 0 64) (given.value names.Digits) ≡ Some d →
     read_or faces.None faces_of (given.value names.Faces) ≡ Some f →
     read_subdomain (given.value names.Subdomain) (given.value names.Ghost) (given.stands switches.GhostCells) ≡ Some u →
     read_output (given.value names.Matrix) (given.value names.Rhs) (given.stands switches.Summary) (has_sums m) ≡ Some o →
-    put_together m s p d f u o ≡ choice → IsChosen given choice
-chosen_from given choice m t s p d f u o m_read t_read s_read p_read d_read f_read u_read o_read is =
+    put_together v s p d f u o ≡ choice → IsChosen given choice
+chosen_from given choice m t s v p d f u o m_read t_read s_read v_read p_read d_read f_read u_read o_read is =
     let mode = named_read mode_of (modes.System systems.Serial) m (given.value names.Mode) m_read in
     let format = named_read format_of formats.Ucd t (given.value names.Format) t_read in
     let read_in : Format → Type 0 = λ f. SourceRead (given.value names.Mesh) (given.value names.Problem) (given.value names.Generate) (given.value names.Seed) f s in
     let source = subst read_in format.1 (source_read (given.value names.Mesh) (given.value names.Problem) (given.value names.Generate) (given.value names.Seed) t s s_read) in
+    let name_is : m ≡ mode_name_in given = mode.1 in
+    let read_from : ModeName → Source → Type 0 = λ n t. read_mode n (given.value names.Vector) (given.value names.Mark) t ≡ Some v in
+    let task = mode_read (given.value names.Mesh) (given.value names.Problem) (given.value names.Generate) (given.value names.Seed) (format_in given) (mode_name_in given) (given.value names.Vector) (given.value names.Mark) v
+    (subst (read_from (mode_name_in given)) source.source_is (subst (λ n. read_from n s) name_is v_read)) in
     let plan = plan_read given p p_read in
     let digits = number_read 0 64 0 d (given.value names.Digits) d_read in
     let sides = named_read faces_of faces.None f (given.value names.Faces) f_read in
     let run = subdomain_read (given.value names.Subdomain) (given.value names.Ghost) (given.stands switches.GhostCells) u u_read in
     let output = output_read (given.value names.Matrix) (given.value names.Rhs) (given.stands switches.Summary) (has_sums m) o o_read in
     record {
-      in_sets = in_all_sets given (record { mode_in = mode.0; format_in = format.0; source_in = source.in_sets; plan_in = plan.0; digits_in = digits.0; faces_in = sides.0; subdomain_in = run.in_sets; output_in = output.in_sets });
+      in_sets = in_all_sets given (record { mode_in = mode.0; format_in = format.0; source_in = source.in_sets; plan_in = plan.0; digits_in = digits.0; faces_in = sides.0; subdomain_in = run.in_sets; output_in = output.in_sets; vector_in = task.in_sets });
       rules = record {
         source = source.rules;
         output = subst (λ m. OutputRules (given.value names.Matrix) (given.value names.Rhs) (given.stands switches.Summary) (has_sums m)) mode.1 output.rules;
         subdomain = run.rule;
+        vector = task.rules;
       };
-      choice_is = sym is ∙ ap (λ m. put_together m s p d f u o) mode.1 ∙ ap (λ s. put_together (mode_in given) s p d f u o) source.source_is
+      choice_is = sym is ∙ ap (λ m. put_together m s p d f u o) task.mode_is ∙ ap (λ s. put_together (mode_in given) s p d f u o) source.source_is
           ∙ ap (λ p. put_together (mode_in given) (chosen given).source p d f u o) plan.1
           ∙ ap (λ d. put_together (mode_in given) (chosen given).source (plan_of given) d f u o) digits.1
           ∙ ap (λ f. put_together (mode_in given) (chosen given).source (plan_of given) (chosen given).digits f u o) sides.1
@@ -396,22 +372,24 @@ chosen_from given choice m t s p d f u o m_read t_read s_read p_read d_read f_re
 pub reading_tells : (given : Given) (choice : Choice) → reading given ≡ Some choice → IsChosen given choice
 unfolding reading
 reading_tells given choice read =
-    let behind_subdomain : Mode → Source → Plan → ℕ → Faces → Option Subdomain → Option Choice = λ m s p d f u.
-    read_output (given.value names.Matrix) (given.value names.Rhs) (given.stands switches.Summary) (has_sums m) >>= (λ o. Some (put_together m s p d f u o)) in
-    let behind_faces : Mode → Source → Plan → ℕ → Faces → Option Choice = λ m s p d f.
-    read_subdomain (given.value names.Subdomain) (given.value names.Ghost) (given.stands switches.GhostCells) >>= (λ u. behind_subdomain m s p d f u) in
-    let behind_digits : Mode → Source → Plan → ℕ → Option Choice = λ m s p d. read_or faces.None faces_of (given.value names.Faces) >>= (λ f. behind_faces m s p d f) in
-    let behind_plan : Mode → Source → Plan → Option Choice = λ m s p. read_or 0 (number_within 0 64) (given.value names.Digits) >>= (λ d. behind_digits m s p d) in
-    let behind_source : Mode → Source → Option Choice = λ m s. read_plan given >>= (λ p. behind_plan m s p) in
-    let behind_format : Mode → Format → Option Choice = λ m t.
+    let behind_subdomain : ModeName → Mode → Source → Plan → ℕ → Faces → Option Subdomain → Option Choice = λ m v s p d f u.
+    read_output (given.value names.Matrix) (given.value names.Rhs) (given.stands switches.Summary) (has_sums m) >>= (λ o. Some (put_together v s p d f u o)) in
+    let behind_faces : ModeName → Mode → Source → Plan → ℕ → Faces → Option Choice = λ m v s p d f.
+    read_subdomain (given.value names.Subdomain) (given.value names.Ghost) (given.stands switches.GhostCells) >>= (λ u. behind_subdomain m v s p d f u) in
+    let behind_digits : ModeName → Mode → Source → Plan → ℕ → Option Choice = λ m v s p d. read_or faces.None faces_of (given.value names.Faces) >>= (λ f. behind_faces m v s p d f) in
+    let behind_plan : ModeName → Mode → Source → Plan → Option Choice = λ m v s p. read_or 0 (number_within 0 64) (given.value names.Digits) >>= (λ d. behind_digits m v s p d) in
+    let behind_vector : ModeName → Source → Mode → Option Choice = λ m s v. read_plan given >>= (λ p. behind_plan m v s p) in
+    let behind_source : ModeName → Source → Option Choice = λ m s. read_mode m (given.value names.Vector) (given.value names.Mark) s >>= (λ v. behind_vector m s v) in
+    let behind_format : ModeName → Format → Option Choice = λ m t.
     read_source (given.value names.Mesh) (given.value names.Problem) (given.value names.Generate) (given.value names.Seed) t >>= (λ s. behind_source m s) in
-    let behind_mode : Mode → Option Choice = λ m. read_or formats.Ucd format_of (given.value names.Format) >>= (λ t. behind_format m t) in
+    let behind_mode : ModeName → Option Choice = λ m. read_or formats.Ucd format_of (given.value names.Format) >>= (λ t. behind_format m t) in
     let m = then_some behind_mode (read_or (modes.System systems.Serial) mode_of (given.value names.Mode)) choice read in
     let t = then_some (behind_format m.0) (read_or formats.Ucd format_of (given.value names.Format)) choice m.2 in
     let s = then_some (behind_source m.0) (read_source (given.value names.Mesh) (given.value names.Problem) (given.value names.Generate) (given.value names.Seed) t.0) choice t.2 in
-    let p = then_some (behind_plan m.0 s.0) (read_plan given) choice s.2 in
-    let d = then_some (behind_digits m.0 s.0 p.0) (read_or 0 (number_within 0 64) (given.value names.Digits)) choice p.2 in
-    let f = then_some (behind_faces m.0 s.0 p.0 d.0) (read_or faces.None faces_of (given.value names.Faces)) choice d.2 in
-    let u = then_some (behind_subdomain m.0 s.0 p.0 d.0 f.0) (read_subdomain (given.value names.Subdomain) (given.value names.Ghost) (given.stands switches.GhostCells)) choice f.2 in
-    let o = then_some (λ o. Some (put_together m.0 s.0 p.0 d.0 f.0 u.0 o)) (read_output (given.value names.Matrix) (given.value names.Rhs) (given.stands switches.Summary) (has_sums m.0)) choice u.2 in
-    chosen_from given choice m.0 t.0 s.0 p.0 d.0 f.0 u.0 o.0 m.1 t.1 s.1 p.1 d.1 f.1 u.1 o.1 (injected (put_together m.0 s.0 p.0 d.0 f.0 u.0 o.0) choice o.2)
+    let v = then_some (behind_vector m.0 s.0) (read_mode m.0 (given.value names.Vector) (given.value names.Mark) s.0) choice s.2 in
+    let p = then_some (behind_plan m.0 v.0 s.0) (read_plan given) choice v.2 in
+    let d = then_some (behind_digits m.0 v.0 s.0 p.0) (read_or 0 (number_within 0 64) (given.value names.Digits)) choice p.2 in
+    let f = then_some (behind_faces m.0 v.0 s.0 p.0 d.0) (read_or faces.None faces_of (given.value names.Faces)) choice d.2 in
+    let u = then_some (behind_subdomain m.0 v.0 s.0 p.0 d.0 f.0) (read_subdomain (given.value names.Subdomain) (given.value names.Ghost) (given.stands switches.GhostCells)) choice f.2 in
+    let o = then_some (λ o. Some (put_together v.0 s.0 p.0 d.0 f.0 u.0 o)) (read_output (given.value names.Matrix) (given.value names.Rhs) (given.stands switches.Summary) (has_sums m.0)) choice u.2 in
+    chosen_from given choice m.0 t.0 s.0 v.0 p.0 d.0 f.0 u.0 o.0 m.1 t.1 s.1 v.1 p.1 d.1 f.1 u.1 o.1 (injected (put_together v.0 s.0 p.0 d.0 f.0 u.0 o.0) choice o.2)

@@ -1,6 +1,6 @@
 -- Words ask for something or for nothing.
-use Rattle.std.proofs.Common.{◌≡◌, ◌∙◌, ◌⊎◌, inl, inr, sym, ap, refl, ℕ, zero, suc, ◌≤◌, List, [], ◌∷◌, length, Bool, true, false, arith}
-use Rattle.std.specs.Prelude.{Some, None, IsSome, Ok, Err, if◌then◌else◌}
+use Rattle.std.proofs.Common.{◌≡◌, ◌∙◌, ◌⊎◌, inl, inr, sym, ap, refl, ℕ, zero, suc, ◌≤◌, List, [], ◌∷◌, length, true, false, arith}
+use Rattle.std.specs.Prelude.{Some, None, IsSome, if◌then◌else◌}
 use Rattle.std.specs.declared.option.Option.{Option}
 use Rattle.std.proofs.lemmas.Bool.{cases_Bool}
 use Rattle.std.proofs.lemmas.List.{length-append}
@@ -10,15 +10,14 @@ use Rattle.run_words.specs.Names.{same_name}
 use Rattle.run_words.specs.Switches.{same_switch}
 use Rattle.run_words.specs.Settings.{Setting, Given, apart, joined, alone, words_of}
 use Rattle.run_words.specs.Held.{Sets, Turns, Adds, Repeats, valued, switched, no_setting, stands, first_setting, HoldsSoFar, Holds, CannotHold}
-use Rattle.run_words.specs.Choice.{Choice}
-use Rattle.run_words.specs.Words.{AskFor, AskForNothing, AskForSomethingOrNothing}
+use Rattle.run_words.specs.Words.{AskForNothing, AskForSomethingOrNothing}
 use Rattle.run_words.specs.Reading.{reading}
 use Rattle.run_words.proofs.Places.{same_name-refl, same_switch-refl}
 use Rattle.run_words.proofs.Taking.{adds_apart, adds_joined, adds_alone, gives_itself}
 use Rattle.run_words.proofs.Cuts.{words_of_first, holds_more, holds_all, holds_fails}
 use Rattle.run_words.proofs.Asked.{ask_for_read, read_as_asked, cannot_ask}
 
-cases_Option : {X : Type 0} (o : Option X) → (o ≡ None) ⊎ ((x : X) × (o ≡ Some x))
+pub cases_Option : {X : Type 0} (o : Option X) → (o ≡ None) ⊎ ((x : X) × (o ≡ Some x))
 cases_Option None = inl refl
 cases_Option (Some x) = inr (x, refl)
 
@@ -74,7 +73,7 @@ shorter words setting left n first few =
     omega (arith, all, sizes, some, few)
 
 -- the words are settings of which no option stands twice, or they are not
-abbrev AreHeldOrNot : List (List ℕ) → Type 0
+abbrev pub AreHeldOrNot : List (List ℕ) → Type 0
 AreHeldOrNot words = ((held : Given) × Holds words held) ⊎ CannotHold words
 
 held_from : (n : ℕ) (words left : List (List ℕ)) (held : Given) → length left ≤ n → HoldsSoFar words held left → AreHeldOrNot words
@@ -89,7 +88,7 @@ held_from (suc n) words (word ∷ behind) held few so_far = elim (cases_Option (
   ]
 ]
 
-held_or_not : (words : List (List ℕ)) → AreHeldOrNot words
+pub held_or_not : (words : List (List ℕ)) → AreHeldOrNot words
 held_or_not words =
     let nothing : Given = record { value = λ name. None; stands = λ switch. false } in
     let so_far : HoldsSoFar words nothing words = record { settings = []; words_are = refl; values_are = record { values_are = λ name. refl; switches_are = λ switch. refl } } in

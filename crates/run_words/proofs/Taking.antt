@@ -8,7 +8,7 @@ use Rattle.run_words.specs.declared.name.Name.{Name}
 use Rattle.run_words.specs.Names.{same_name}
 use Rattle.run_words.specs.declared.switch.Switch.{Switch}
 use Rattle.run_words.specs.Switches.{same_switch}
-use Rattle.run_words.specs.Settings.{Setting, Given, apart, joined, alone, is_alone}
+use Rattle.run_words.specs.Settings.{Setting, Given, apart, joined, alone}
 use Rattle.run_words.specs.Openings.{whole, named, begins, seen_opening}
 use Rattle.run_words.specs.declared.opening.Opening as rust
 use Rattle.run_words.specs.Held.{Sets, Turns, Adds, Takes, CannotTake, stands, valued, switched, first_with}

@@ -1,15 +1,14 @@
 -- What the words ask for is within its ranges.
-use Rattle.std.proofs.Common.{◌≡◌, ◌<◌, ◌≤◌, ℕ, ◌*◌, List, true, false, Bool, arith, subst, sym}
-use Rattle.std.specs.Prelude.{Some, None, ◌&&◌, nat_le, nat_lt}
+use Rattle.std.proofs.Common.{◌≡◌, ◌≤◌, ℕ, ◌*◌, List, true, arith, subst, sym}
+use Rattle.std.specs.Prelude.{Some, None}
 use Rattle.std.specs.declared.option.Option.{Option}
 use Rattle.std.proofs.lemmas.Grind.{common_steps}
 use Rattle.fem_fixed.specs.Numbers.{digits_value}
-use Rattle.run_words.specs.declared.name.Name.{Name}
 use Rattle.run_words.specs.declared.name.Name.TheVariants as names
 use Rattle.run_words.specs.declared.options.Format.{Format}
 use Rattle.run_words.specs.Settings.{Given, given_by}
-use Rattle.run_words.specs.Values.{is_number, is_number_within, is_in_set}
-use Rattle.run_words.specs.Choice.{Choice, Source, texts, generated, number_or, plan_of, source_of, format_in, chosen}
+use Rattle.run_words.specs.Values.{is_number_within, is_in_set}
+use Rattle.run_words.specs.Choice.{Choice, number_or, plan_of, source_of, format_in, chosen}
 use Rattle.run_words.specs.Words.{passes, AreInSets, AskFor}
 use Rattle.run_words.specs.Ranges.{IsOfSize, IsPlan, IsWithinRanges}
 

@@ -5,9 +5,14 @@ use Rattle.std.specs.Option.{option_map, option_copied}
 use Rattle.std.specs.Str.{bytes_eq}
 use Rattle.fem_fixed.specs.Numbers.{digits_value}
 use Rattle.run_words.specs.declared.name.Name.TheVariants as names
-use Rattle.run_words.specs.declared.options.Mode.{Mode}
+use Rattle.run_words.specs.declared.mode.ModeName.{ModeName}
+use Rattle.run_words.specs.declared.mode.ModeName.TheVariants as names_of_modes
+use Rattle.run_words.specs.declared.options.Mode as rust_mode
 use Rattle.run_words.specs.declared.options.Mode.TheVariants as modes
+use Rattle.run_words.specs.declared.options.SystemMode.{SystemMode}
 use Rattle.run_words.specs.declared.options.SystemMode.TheVariants as systems
+use Rattle.run_words.specs.declared.options.VectorTask.{VectorTask}
+use Rattle.run_words.specs.declared.options.VectorTask.TheVariants as tasks
 use Rattle.run_words.specs.declared.options.Format.{Format}
 use Rattle.run_words.specs.declared.options.Format.TheVariants as formats
 use Rattle.run_words.specs.declared.options.Faces.{Faces}
@@ -25,6 +30,18 @@ use Rattle.run_words.specs.declared.options.Options as rust_options
 use Rattle.run_words.specs.Settings.{Given}
 use Rattle.run_words.specs.Values.{mode_of, format_of, faces_of}
 
+-- what a run makes: texts of the system, the text of the mesh, or what is made of the vector under a name
+pub data Mode : Type 0 where
+  of_system : SystemMode → Mode
+  of_mesh : Mode
+  of_vector : List ℕ → VectorTask → Mode
+
+-- the name of the vector, where the mode has one
+abbrev pub vector_in : Mode → Option (List ℕ)
+vector_in (of_system mode) = None
+vector_in of_mesh = None
+vector_in (of_vector name task) = Some name
+
 -- what is assembled: the mesh under a name, in a format, with the problem under another name, if any, or what is
 -- generated for n cells in a row and a seed
 pub data Source : Type 0 where
@@ -40,7 +57,8 @@ pub data Destination : Type 0 where
   standard : Destination
   named : List ℕ → Destination
 
--- what is written: the summary, or the matrix, pattern, colours or mesh, and the right side where it has a destination
+-- what is written: the summary, or the matrix, pattern, colours, mesh, product or marks, and the right side where it has a
+-- destination
 pub data Output : Type 0 where
   summary : Output
   both : Destination → Option Destination → Output
@@ -56,6 +74,11 @@ pub record Choice : Type 0 where
 
 -- the same, as the program has it
 
+abbrev pub seen_mode : rust_mode.Mode → Mode
+seen_mode (modes.System mode) = of_system mode
+seen_mode modes.Mesh = of_mesh
+seen_mode (modes.Vector name task) = of_vector name.now task
+
 abbrev pub seen_source : rust_source.Source → Source
 seen_source (sources.Texts mesh format problem) = texts mesh.now format (option_copied problem)
 seen_source (sources.Generated n seed) = generated n seed
@@ -70,7 +93,7 @@ seen_output (outputs.Texts matrix rhs) = both (seen_destination matrix) (option_
 
 abbrev pub seen : rust_options.Options → Choice
 seen options = record {
-  mode = options.mode;
+  mode = seen_mode options.mode;
   source = seen_source options.source;
   plan = options.plan;
   digits = options.digits;
@@ -118,8 +141,19 @@ abbrev pub subdomain_of : Option (List ℕ) → Option (List ℕ) → Bool → O
 subdomain_of None parts cells = None
 subdomain_of (Some id) parts cells = Some (record { id = digits_value id; ghost_parts = named_or faces.None faces_of parts; ghost_cells = cells })
 
+abbrev pub mode_name_in : Given → ModeName
+mode_name_in given = named_or (names_of_modes.System systems.Serial) mode_of (given.value names.Mode)
+
+-- by the name of the mode and the values of `--vector` and `--mark`
+abbrev pub mode_from : ModeName → Option (List ℕ) → Option (List ℕ) → Mode
+mode_from (names_of_modes.System mode) vector mark = of_system mode
+mode_from names_of_modes.Mesh vector mark = of_mesh
+mode_from names_of_modes.Product vector mark = of_vector (unwrap_or vector []) tasks.Product
+mode_from names_of_modes.Marks vector mark = of_vector (unwrap_or vector []) (tasks.Marks (number_or 1 mark))
+mode_from names_of_modes.Adapt vector mark = of_vector (unwrap_or vector []) (tasks.Adapt (number_or 1 mark))
+
 abbrev pub mode_in : Given → Mode
-mode_in given = named_or (modes.System systems.Serial) mode_of (given.value names.Mode)
+mode_in given = mode_from (mode_name_in given) (given.value names.Vector) (given.value names.Mark)
 
 abbrev pub format_in : Given → Format
 format_in given = named_or formats.Ucd format_of (given.value names.Format)

@@ -7,5 +7,7 @@ pub mod Values
 pub mod Choice
 pub mod Words
 pub mod Reading
+pub mod Jobs
+pub mod JobReading
 pub mod Ordered
 pub mod Ranges

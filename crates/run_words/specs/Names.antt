@@ -21,6 +21,8 @@ spelled names.Seed = codes "--seed"
 spelled names.Format = codes "--format"
 spelled names.Subdomain = codes "--subdomain"
 spelled names.Ghost = codes "--ghost"
+spelled names.Vector = codes "--vector"
+spelled names.Mark = codes "--mark"
 
 -- the place of an option among all of them
 abbrev pub place_of : Name → ℕ
@@ -40,10 +42,12 @@ place_of names.Seed = 12
 place_of names.Format = 13
 place_of names.Subdomain = 14
 place_of names.Ghost = 15
+place_of names.Vector = 16
+place_of names.Mark = 17
 
 -- two options are one exactly where their places are equal
 abbrev pub same_name : Name → Name → Bool
 same_name name other = nat_eq (place_of name) (place_of other)
 
 abbrev pub all_names : List Name
-all_names = names.Mode ∷ names.Mesh ∷ names.Problem ∷ names.Workers ∷ names.Queue ∷ names.Chunk ∷ names.Scratch ∷ names.Digits ∷ names.Faces ∷ names.Matrix ∷ names.Rhs ∷ names.Generate ∷ names.Seed ∷ names.Format ∷ names.Subdomain ∷ names.Ghost ∷ []
+all_names = names.Mode ∷ names.Mesh ∷ names.Problem ∷ names.Workers ∷ names.Queue ∷ names.Chunk ∷ names.Scratch ∷ names.Digits ∷ names.Faces ∷ names.Matrix ∷ names.Rhs ∷ names.Generate ∷ names.Seed ∷ names.Format ∷ names.Subdomain ∷ names.Ghost ∷ names.Vector ∷ names.Mark ∷ []

@@ -1,5 +1,5 @@
 -- The ranges of what the words ask for.
-use Rattle.std.specs.Prelude.{ℕ, ◌<◌, ◌≤◌, ◌^◌}
+use Rattle.std.specs.Prelude.{◌<◌, ◌≤◌}
 use Rattle.run_words.specs.declared.options.Plan.{Plan}
 use Rattle.run_words.specs.Choice.{Source, texts, generated, Choice}
 

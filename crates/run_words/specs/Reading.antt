@@ -1,11 +1,13 @@
 -- How values are read, one option after another.
-use Rattle.std.specs.Prelude.{ℕ, ◌*◌, List, Bool, true, false, ◌&&◌, codes, if◌then◌else◌, Some, None}
+use Rattle.std.specs.Prelude.{ℕ, ◌*◌, List, Bool, true, false, ◌&&◌, ◌||◌, not, codes, if◌then◌else◌, Some, None}
 use Rattle.std.specs.declared.option.Option.{Option}
 use Rattle.std.specs.Option.{option_map, option_and_then}
 use Rattle.std.specs.Str.{bytes_eq}
 use Rattle.fem_fixed.specs.Numbers.{digits_value, id_of}
 use Rattle.run_words.specs.declared.name.Name.TheVariants as names
-use Rattle.run_words.specs.declared.options.Mode.TheVariants as modes
+use Rattle.run_words.specs.declared.mode.ModeName.{ModeName}
+use Rattle.run_words.specs.declared.mode.ModeName.TheVariants as modes
+use Rattle.run_words.specs.declared.options.VectorTask.TheVariants as tasks
 use Rattle.run_words.specs.declared.options.SystemMode.TheVariants as systems
 use Rattle.run_words.specs.declared.options.Format.{Format}
 use Rattle.run_words.specs.declared.options.Format.TheVariants as formats
@@ -15,8 +17,8 @@ use Rattle.run_words.specs.declared.options.Subdomain.{Subdomain}
 use Rattle.run_words.specs.declared.switch.Switch.TheVariants as switches
 use Rattle.run_words.specs.Settings.{Given}
 use Rattle.run_words.specs.Values.{is_name, is_number, is_number_within, mode_of, format_of, faces_of}
-use Rattle.run_words.specs.Choice.{Source, texts, generated, Destination, standard, named, Output, summary, both, destination_of, Choice}
-use Rattle.run_words.specs.Words.{has_sums}
+use Rattle.run_words.specs.Choice.{Mode, of_system, of_mesh, of_vector, Source, texts, generated, Destination, standard, named, Output, summary, both, destination_of, Choice}
+use Rattle.run_words.specs.Words.{has_sums, is_standard}
 
 abbrev pub ◌>>=◌ : {X Y : Type 0} → Option X → (X → Option Y) → Option Y
 o >>= f = option_and_then f o
@@ -55,6 +57,24 @@ read_source None None (Some cells) seed formats.Ucd =
     number_within 1 512 cells >>= (λ n. read_or 0 (number_within 0 18446744073709551615) seed >>= (λ s. Some (generated n s)))
 read_source _ _ _ _ _ = None
 
+-- a vector may stand beside the source: there are texts, of which none is `-` where the vector is
+abbrev pub is_apart : List ℕ → Source → Bool
+is_apart name (texts mesh format problem) = not (bytes_eq name (codes "-") && (bytes_eq mesh (codes "-") || is_standard problem))
+is_apart name (generated n seed) = false
+
+abbrev pub read_vector : List ℕ → Source → Option (List ℕ)
+read_vector word source = name_of word >>= (λ name. if is_apart name source then Some name else None)
+
+unfoldable pub read_mode : ModeName → Option (List ℕ) → Option (List ℕ) → Source → Option Mode
+read_mode (modes.System mode) None None source = Some (of_system mode)
+read_mode modes.Mesh None None source = Some of_mesh
+read_mode modes.Product (Some vector) None source = read_vector vector source >>= (λ name. Some (of_vector name tasks.Product))
+read_mode modes.Marks (Some vector) mark source =
+    read_vector vector source >>= (λ name. read_or 1 (number_within 1 1048576) mark >>= (λ n. Some (of_vector name (tasks.Marks n))))
+read_mode modes.Adapt (Some vector) mark source =
+    read_vector vector source >>= (λ name. read_or 1 (number_within 1 1048576) mark >>= (λ n. Some (of_vector name (tasks.Adapt n))))
+read_mode _ _ _ _ = None
+
 abbrev pub read_destination : List ℕ → Option Destination
 read_destination word = option_map destination_of (name_of word)
 
@@ -81,12 +101,13 @@ read_subdomain _ _ _ = None
 
 unfoldable pub reading : Given → Option Choice
 reading given = do
-  mode ← read_or (modes.System systems.Serial) mode_of (given.value names.Mode)
+  name ← read_or (modes.System systems.Serial) mode_of (given.value names.Mode)
   format ← read_or formats.Ucd format_of (given.value names.Format)
   source ← read_source (given.value names.Mesh) (given.value names.Problem) (given.value names.Generate) (given.value names.Seed) format
+  mode ← read_mode name (given.value names.Vector) (given.value names.Mark) source
   plan ← read_plan given
   digits ← read_or 0 (number_within 0 64) (given.value names.Digits)
   faces ← read_or faces.None faces_of (given.value names.Faces)
   subdomain ← read_subdomain (given.value names.Subdomain) (given.value names.Ghost) (given.stands switches.GhostCells)
-  output ← read_output (given.value names.Matrix) (given.value names.Rhs) (given.stands switches.Summary) (has_sums mode)
+  output ← read_output (given.value names.Matrix) (given.value names.Rhs) (given.stands switches.Summary) (has_sums name)
   Some (record { mode = mode; source = source; plan = plan; digits = digits; faces = faces; subdomain = subdomain; output = output })

@@ -8,8 +8,8 @@ use Rattle.std.specs.Str.{bytes_eq}
 use Rattle.fem_fixed.specs.Numbers.{digits_value, is_id}
 use Rattle.run_words.specs.declared.name.Name.{Name}
 use Rattle.run_words.specs.declared.name.Name.TheVariants as names
-use Rattle.run_words.specs.declared.options.Mode.{Mode}
-use Rattle.run_words.specs.declared.options.Mode.TheVariants as modes
+use Rattle.run_words.specs.declared.mode.ModeName.{ModeName}
+use Rattle.run_words.specs.declared.mode.ModeName.TheVariants as modes
 use Rattle.run_words.specs.declared.options.SystemMode.{SystemMode}
 use Rattle.run_words.specs.declared.options.SystemMode.TheVariants as systems
 use Rattle.run_words.specs.declared.options.Format.{Format}
@@ -40,8 +40,13 @@ system_mode_of word =
     else None
 
 -- the names of all modes
-unfoldable pub mode_of : List ℕ → Option Mode
-mode_of word = if bytes_eq word (codes "mesh") then Some modes.Mesh else option_map modes.System (system_mode_of word)
+unfoldable pub mode_of : List ℕ → Option ModeName
+mode_of word =
+    if bytes_eq word (codes "mesh") then Some modes.Mesh
+    else if bytes_eq word (codes "product") then Some modes.Product
+    else if bytes_eq word (codes "marks") then Some modes.Marks
+    else if bytes_eq word (codes "adapt") then Some modes.Adapt
+    else option_map modes.System (system_mode_of word)
 
 -- the names of formats
 unfoldable pub format_of : List ℕ → Option Format
@@ -76,3 +81,5 @@ is_in_set names.Seed value = is_number_within 0 18446744073709551615 value
 is_in_set names.Format value = is_some (format_of value)
 is_in_set names.Subdomain value = is_id value
 is_in_set names.Ghost value = is_some (faces_of value)
+is_in_set names.Vector value = is_name value
+is_in_set names.Mark value = is_number_within 1 1048576 value

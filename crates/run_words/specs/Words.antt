@@ -6,14 +6,14 @@ use Rattle.std.specs.Str.{bytes_eq}
 use Rattle.run_words.specs.declared.name.Name.{Name}
 use Rattle.run_words.specs.declared.name.Name.TheVariants as names
 use Rattle.run_words.specs.declared.switch.Switch.TheVariants as switches
-use Rattle.run_words.specs.declared.options.Mode.{Mode}
-use Rattle.run_words.specs.declared.options.Mode.TheVariants as modes
+use Rattle.run_words.specs.declared.mode.ModeName.{ModeName}
+use Rattle.run_words.specs.declared.mode.ModeName.TheVariants as modes
 use Rattle.run_words.specs.declared.options.SystemMode.TheVariants as systems
 use Rattle.run_words.specs.declared.options.Format.{Format}
 use Rattle.run_words.specs.declared.options.Format.TheVariants as formats
 use Rattle.run_words.specs.Settings.{Setting, words_of, StandsOnce, Given, given_by}
 use Rattle.run_words.specs.Values.{is_in_set}
-use Rattle.run_words.specs.Choice.{Choice, mode_in, format_in, chosen}
+use Rattle.run_words.specs.Choice.{Choice, mode_name_in, format_in, chosen}
 
 -- an option doesn't stand, or its value is in its set
 abbrev pub passes : (List ℕ → Bool) → Option (List ℕ) → Bool
@@ -34,13 +34,32 @@ are_same (Some name) (Some other) = bytes_eq name other
 are_same _ _ = false
 
 -- the modes that have sums, and so a right side and a summary
-abbrev pub has_sums : Mode → Bool
+abbrev pub has_sums : ModeName → Bool
 has_sums (modes.System systems.Serial) = true
 has_sums (modes.System systems.Ordered) = true
 has_sums (modes.System systems.Colored) = true
 has_sums (modes.System systems.Pattern) = false
 has_sums (modes.System systems.Colors) = false
 has_sums modes.Mesh = false
+has_sums modes.Product = false
+has_sums modes.Marks = false
+has_sums modes.Adapt = true
+
+-- the modes that take marks
+abbrev pub takes_mark : ModeName → Bool
+takes_mark (modes.System mode) = false
+takes_mark modes.Mesh = false
+takes_mark modes.Product = false
+takes_mark modes.Marks = true
+takes_mark modes.Adapt = true
+
+-- the modes that take a vector
+abbrev pub takes_vector : ModeName → Bool
+takes_vector (modes.System mode) = false
+takes_vector modes.Mesh = false
+takes_vector modes.Product = true
+takes_vector modes.Marks = true
+takes_vector modes.Adapt = true
 
 abbrev pub is_msh : Format → Bool
 is_msh formats.Ucd = false
@@ -68,10 +87,20 @@ pub record OutputRules (matrix rhs : Option (List ℕ)) (summary sums : Bool) : 
 abbrev pub SubdomainRule : Option (List ℕ) → Option (List ℕ) → Bool → Type 0
 SubdomainRule subdomain parts cells = ((is_some parts || cells) && not (is_some subdomain)) ≡ false
 
+-- the rules between the mode, `--vector`, `--mark`, `--mesh`, `--problem` and `--generate`
+pub record VectorRules (name : ModeName) (vector mark mesh problem generate : Option (List ℕ)) : Type 0 where
+  -- a vector stands where the mode takes one, and nowhere else
+  pub taken : is_some vector ≡ takes_vector name
+  pub no_marks : (is_some mark && not (takes_mark name)) ≡ false
+  pub no_generator : (is_some vector && is_some generate) ≡ false
+  -- standard input is read once
+  pub one_input : (is_standard vector && (is_standard mesh || is_standard problem)) ≡ false
+
 pub record KeepsRules (given : Given) : Type 0 where
   pub source : SourceRules (given.value names.Mesh) (given.value names.Problem) (given.value names.Generate) (given.value names.Seed) (format_in given)
-  pub output : OutputRules (given.value names.Matrix) (given.value names.Rhs) (given.stands switches.Summary) (has_sums (mode_in given))
+  pub output : OutputRules (given.value names.Matrix) (given.value names.Rhs) (given.stands switches.Summary) (has_sums (mode_name_in given))
   pub subdomain : SubdomainRule (given.value names.Subdomain) (given.value names.Ghost) (given.stands switches.GhostCells)
+  pub vector : VectorRules (mode_name_in given) (given.value names.Vector) (given.value names.Mark) (given.value names.Mesh) (given.value names.Problem) (given.value names.Generate)
 
 -- the words ask for this: they are settings, no option stands twice, each value is in its set, the rules between
 -- options are kept, and the choice is what the settings give

@@ -1,17 +1,18 @@
 ghost use Rattle.std.specs.Prelude.{◌≡◌, length};
 ghost use Rattle.std.specs.Option.{option_map, option_copied};
 ghost use Rattle.run_words.specs.Held.{seen_settings};
-ghost use Rattle.run_words.specs.Words.{has_sums};
 ghost use Rattle.run_words.specs.Values.{mode_of, format_of, faces_of};
-ghost use Rattle.run_words.specs.Choice.{standard, seen, seen_source, seen_destination, seen_output, destination_of};
-ghost use Rattle.run_words.specs.Reading.{reading, read_or, read_plan, read_source, read_subdomain, read_destination, read_output, two_texts, two_outputs, is_same_name};
+ghost use Rattle.run_words.specs.Choice.{standard, seen, seen_mode, seen_source, seen_destination, seen_output, destination_of};
+ghost use Rattle.run_words.specs.Reading.{reading, read_or, read_mode, read_vector, read_plan, read_source, read_subdomain, read_destination, read_output, is_apart, two_texts, two_outputs, is_same_name};
 
+use crate::mode::{ModeName, has_sums, mode_of};
 use crate::name::Name;
 use crate::settings::Settings;
 use crate::switch::Switch;
-use crate::values::{faces_of, format_of, mode_of, name_of, number_or, number_within};
+use crate::values::{faces_of, format_of, name_of, number_or, number_within};
 use crate::{
     Destination, Faces, Format, Mode, Options, Output, Plan, Source, Subdomain, SystemMode,
+    VectorTask,
 };
 use fem_fixed::read_id;
 
@@ -20,7 +21,7 @@ use fem_fixed::read_id;
 pub(crate) fn options_of<'a>(settings: &Settings<'a>) -> Option<Options<'a>>
     ensures { option_map seen result ≡ reading (seen_settings settings.now) }
 {
-    let mode = mode_or_serial(settings.value(Name::Mode))?;
+    let name = mode_or_serial(settings.value(Name::Mode))?;
     let format = format_or_ucd(settings.value(Name::Format))?;
     let source = source_of(
         settings.value(Name::Mesh),
@@ -28,6 +29,12 @@ pub(crate) fn options_of<'a>(settings: &Settings<'a>) -> Option<Options<'a>>
         settings.value(Name::Generate),
         settings.value(Name::Seed),
         format,
+    )?;
+    let mode = mode_for(
+        name,
+        settings.value(Name::Vector),
+        settings.value(Name::Mark),
+        source,
     )?;
     let plan = plan_of(settings)?;
     let digits = number_or(0, 0, 64, settings.value(Name::Digits))?;
@@ -41,7 +48,7 @@ pub(crate) fn options_of<'a>(settings: &Settings<'a>) -> Option<Options<'a>>
         settings.value(Name::Matrix),
         settings.value(Name::Rhs),
         settings.stands(Switch::Summary),
-        has_sums(mode),
+        has_sums(name),
     )?;
     Some(Options {
         mode,
@@ -54,12 +61,70 @@ pub(crate) fn options_of<'a>(settings: &Settings<'a>) -> Option<Options<'a>>
     })
 }
 
-fn mode_or_serial(value: Option<&str>) -> Option<Mode>
-    ensures { result ≡ read_or (Mode.System SystemMode.Serial) mode_of (option_copied value.entry) }
+fn mode_or_serial(value: Option<&str>) -> Option<ModeName>
+    ensures { result ≡ read_or (ModeName.System SystemMode.Serial) mode_of (option_copied value.entry) }
 {
     match value {
         Some(word) => mode_of(word),
-        None => Some(Mode::System(SystemMode::Serial)),
+        None => Some(ModeName::System(SystemMode::Serial)),
+    }
+}
+
+// The mode of a name, with its vector and its count of marks. They stand where the mode takes them, and nowhere else.
+#[tactic(auto, unfolding(crate::specs::Reading::read_mode))]
+fn mode_for<'a>(
+    name: ModeName,
+    vector: Option<&'a str>,
+    mark: Option<&str>,
+    source: Source<'_>,
+) -> Option<Mode<'a>>
+    ensures { option_map seen_mode result ≡ read_mode name (option_copied vector.entry) (option_copied mark.entry) (seen_source source.entry) }
+{
+    match (name, vector, mark) {
+        (ModeName::System(mode), None, None) => Some(Mode::System(mode)),
+        (ModeName::Mesh, None, None) => Some(Mode::Mesh),
+        (ModeName::Product, Some(vector), None) => {
+            let name = vector_of(vector, source)?;
+            let task = VectorTask::Product;
+            Some(Mode::Vector { name, task })
+        }
+        (ModeName::Marks, Some(vector), mark) => {
+            let name = vector_of(vector, source)?;
+            let task = VectorTask::Marks(number_or(1, 1, 1_048_576, mark)?);
+            Some(Mode::Vector { name, task })
+        }
+        (ModeName::Adapt, Some(vector), mark) => {
+            let name = vector_of(vector, source)?;
+            let task = VectorTask::Adapt(number_or(1, 1, 1_048_576, mark)?);
+            Some(Mode::Vector { name, task })
+        }
+        _ => None,
+    }
+}
+
+// The name of a vector beside texts of which none is standard input, where the vector is.
+fn vector_of<'a>(word: &'a str, source: Source<'_>) -> Option<&'a str>
+    ensures { option_copied result ≡ read_vector word.now (seen_source source.entry) }
+{
+    let name = name_of(word)?;
+    if is_apart(name, source) {
+        Some(name)
+    } else {
+        None
+    }
+}
+
+// What is generated takes no vector.
+fn is_apart(name: &str, source: Source<'_>) -> bool
+    ensures { result ≡ is_apart name.now (seen_source source.entry) }
+{
+    match source {
+        Source::Texts {
+            mesh,
+            format: _,
+            problem,
+        } => !(name == "-" && (mesh == "-" || problem == Some("-"))),
+        Source::Generated { n: _, seed: _ } => false,
     }
 }
 
@@ -236,15 +301,5 @@ fn destination_of(word: &str) -> Option<Destination<'_>>
         Some(Destination::Standard)
     } else {
         Some(Destination::Named(name))
-    }
-}
-
-// The modes with sums have a right side and a summary.
-fn has_sums(mode: Mode) -> bool
-    ensures { result ≡ has_sums mode }
-{
-    match mode {
-        Mode::System(SystemMode::Serial | SystemMode::Ordered | SystemMode::Colored) => true,
-        Mode::System(SystemMode::Pattern | SystemMode::Colors) | Mode::Mesh => false,
     }
 }

@@ -21,10 +21,12 @@ pub(crate) enum Name {
     Format,
     Subdomain,
     Ghost,
+    Vector,
+    Mark,
 }
 
 impl Name {
-    pub(crate) const COUNT: usize = 16;
+    pub(crate) const COUNT: usize = 18;
 
     #[tactic(auto, unfolding(crate::specs::Names::spelled))]
     fn spelled(self) -> &'static str
@@ -47,6 +49,8 @@ impl Name {
             Name::Format => "--format",
             Name::Subdomain => "--subdomain",
             Name::Ghost => "--ghost",
+            Name::Vector => "--vector",
+            Name::Mark => "--mark",
         }
     }
 
@@ -58,7 +62,7 @@ impl Name {
     }
 }
 
-const NAMES: [Name; 16] = [
+pub(crate) const NAMES: [Name; 18] = [
     Name::Mode,
     Name::Mesh,
     Name::Problem,
@@ -75,6 +79,8 @@ const NAMES: [Name; 16] = [
     Name::Format,
     Name::Subdomain,
     Name::Ghost,
+    Name::Vector,
+    Name::Mark,
 ];
 
 /// The option that a word spells.

@@ -1,10 +1,23 @@
 /// What a run makes.
 #[derive(Clone, Copy, Debug, PartialEq, Eq)]
-pub enum Mode {
+pub enum Mode<'a> {
     /// Texts of the system of the mesh and the problem.
     System(SystemMode),
     /// The text of the mesh that is read, in UCD.
     Mesh,
+    /// What is made of the values of the vector text under a name, one for each degree of freedom. `-` is standard input.
+    Vector { name: &'a str, task: VectorTask },
+}
+
+/// What is made of a vector.
+#[derive(Clone, Copy, Debug, PartialEq, Eq)]
+pub enum VectorTask {
+    /// The product of the operator with it, without a matrix.
+    Product,
+    /// The cells with the greatest jumps of its gradient, at most so many, and their indicators.
+    Marks(u32),
+    /// The sums, cell by cell, on the mesh after one more step of refinement, of these cells.
+    Adapt(u32),
 }
 
 /// Which texts of a system a run makes.
@@ -91,7 +104,7 @@ pub enum Destination<'a> {
 pub enum Output<'a> {
     /// The summary, to standard output.
     Summary,
-    /// The matrix, pattern, colours or mesh, and the right side where it has a destination.
+    /// The matrix, pattern, colours, mesh, product or marks, and the right side where it has a destination.
     Texts {
         matrix: Destination<'a>,
         right_side: Option<Destination<'a>>,
@@ -102,7 +115,7 @@ pub enum Output<'a> {
 /// subdomain is named, the run is over all cells.
 #[derive(Clone, Copy, Debug, PartialEq, Eq)]
 pub struct Options<'a> {
-    pub mode: Mode,
+    pub mode: Mode<'a>,
     pub source: Source<'a>,
     pub plan: Plan,
     pub digits: u32,

@@ -1,9 +1,9 @@
 ghost use Rattle.std.specs.Prelude.{◌≡◌};
 ghost use Rattle.std.specs.Option.{option_copied};
-ghost use Rattle.run_words.specs.Values.{system_mode_of, mode_of, format_of, faces_of};
+ghost use Rattle.run_words.specs.Values.{format_of, faces_of};
 ghost use Rattle.run_words.specs.Reading.{number_of, number_within, name_of, read_or};
 
-use crate::{Faces, Format, Mode, SystemMode};
+use crate::{Faces, Format};
 
 /// The number of a word of one to twenty decimal digits. Leading zeros are allowed, and a sign is not.
 fn number_of(word: &str) -> Option<u128>
@@ -59,39 +59,6 @@ pub(crate) fn name_of(word: &str) -> Option<&str>
         return None;
     }
     Some(word)
-}
-
-#[tactic(auto, unfolding(crate::specs::Values::mode_of))]
-pub(crate) fn mode_of(word: &str) -> Option<Mode>
-    ensures { result ≡ mode_of word.now }
-{
-    if word == "mesh" {
-        return Some(Mode::Mesh);
-    }
-    let mode = system_mode_of(word)?;
-    Some(Mode::System(mode))
-}
-
-#[tactic(auto, unfolding(crate::specs::Values::system_mode_of))]
-fn system_mode_of(word: &str) -> Option<SystemMode>
-    ensures { result ≡ system_mode_of word.now }
-{
-    if word == "serial" {
-        return Some(SystemMode::Serial);
-    }
-    if word == "ordered" {
-        return Some(SystemMode::Ordered);
-    }
-    if word == "colored" {
-        return Some(SystemMode::Colored);
-    }
-    if word == "pattern" {
-        return Some(SystemMode::Pattern);
-    }
-    if word == "colors" {
-        return Some(SystemMode::Colors);
-    }
-    None
 }
 
 #[tactic(auto, unfolding(crate::specs::Values::format_of))]

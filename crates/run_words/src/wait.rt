@@ -1,9 +1,9 @@
 ghost use Rattle.std.specs.Prelude.{◌≡◌, ◌↔◌, ℕ, List, map, string_bytes, IsTrue, codes};
-ghost use Rattle.run_words.specs.Choice.{Choice};
+ghost use Rattle.run_words.specs.Choice.{Choice, of_system};
 ghost use Rattle.run_words.specs.Words.{AskFor, NameOrdered};
 ghost use Rattle.run_words.specs.Ordered.{begins_with, names_at};
 
-use crate::{Mode, SystemMode};
+use crate::SystemMode;
 
 /// Whether two words in a row are `--mode` and `ordered`, or a word is `--mode=ordered`: whether a run may wait.
 pub fn wants_wait(words: &[String]) -> bool
@@ -22,7 +22,7 @@ pub fn wants_wait(words: &[String]) -> bool
 /// Words that ask for the mode `ordered` name it: the answers of [`crate::read_words`] have that mode only where
 /// [`wants_wait`] is true.
 pub fn ordered_is_named()
-    ensures { (words : List (List ℕ)) (choice : Choice) → AskFor words choice → choice.mode ≡ Mode.System SystemMode.Ordered → NameOrdered words }
+    ensures { (words : List (List ℕ)) (choice : Choice) → AskFor words choice → choice.mode ≡ of_system SystemMode.Ordered → NameOrdered words }
 {}
 
 #[tactic(auto, unfolding(crate::specs::Ordered::names_at))]

@@ -6,11 +6,7 @@ use Rattle.corner_names.specs.Cells.{level}
 use Rattle.hanging_refine.specs.Refined.{ActiveCell, RefinedMesh, cell_of, coarse_of, named, active_cells, cell_in, active_at, cell_at}
 use Rattle.hanging_refine.specs.Refinement.{level_of}
 use Rattle.hanging_refine.proofs.Lists.{map_length, coarse_is, level_is}
-
--- one coarse mesh, and the same active cells in the same order
-pub record IsSameForest (a b : RefinedMesh) : Type 0 where
-  pub mesh : a.mesh ≡ b.mesh
-  pub cells : active_cells a ≡ active_cells b
+use Rattle.system_laws.specs.Same.{IsSameForest}
 
 pub same_count : (a b : RefinedMesh) → IsSameForest a b → length a.cells ≡ length b.cells
 same_count a b s = sym (map_length named a.cells) ∙ ap length s.cells ∙ map_length named b.cells

@@ -14,3 +14,5 @@ pub mod Refining
 pub mod Tables
 pub mod Some
 pub mod Quadrilaterals
+pub mod Further
+pub mod Outcomes

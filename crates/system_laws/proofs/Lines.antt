@@ -31,7 +31,8 @@ use Rattle.diagnostics.specs.declared.refusal.Refusal.{Refusal}
 use Rattle.diagnostics.specs.declared.ending.Ending.TheVariants.{Refused}
 use Rattle.system_setup.specs.Endings.{of_constraints}
 use Rattle.system_setup.specs.SetUp.{nodes_of, LinesFor}
-use Rattle.system_laws.proofs.Forests.{IsSameForest, same_count, same_back, by_cells}
+use Rattle.system_laws.specs.Same.{IsSameForest}
+use Rattle.system_laws.proofs.Forests.{same_count, same_back, by_cells}
 use Rattle.system_laws.proofs.OneTable.{same_answer}
 use Rattle.system_laws.proofs.Visits.{same_outer, same_id, same_faces}
 

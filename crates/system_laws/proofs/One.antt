@@ -19,9 +19,9 @@ use Rattle.diagnostics.specs.declared.ending.Ending.TheVariants.{Refused}
 use Rattle.system_setup.specs.Endings.{of_mesh, of_refining}
 use Rattle.diagnostics.specs.Stages.{Then, stops, goes}
 use Rattle.system_setup.specs.SetUp.{RefinedFrom, IsMadeOf, PatternedFor, SetUpOn}
-use Rattle.system_laws.specs.Same.{AgreeOn}
+use Rattle.system_laws.specs.Same.{IsSameForest, AgreeOn}
 use Rattle.system_laws.specs.Laws.{HasOneSystem}
-use Rattle.system_laws.proofs.Forests.{IsSameForest, same_count}
+use Rattle.system_laws.proofs.Forests.{same_count}
 use Rattle.system_laws.proofs.Lines.{same_size, same_corner_dof, same_lines}
 use Rattle.system_laws.proofs.Steps.{same_steps}
 use Rattle.system_laws.proofs.System.{IsSameSetUp, one_system, same_couplings}
@@ -35,7 +35,7 @@ same_row a b s d e x y n m c h =
     (λ v k. n.cells c v h (omega arith) ∙ ap (λ degree. corner_dof degree a c v) x ∙ ap (λ dof. dof c v) (same_corner_dof 1 a b s)
     ∙ sym (m.cells c v (omega arith) (omega arith) ∙ ap (λ degree. corner_dof degree b c v) y))
 
-same_rows : (a b : RefinedMesh) → IsSameForest a b → (d e : Numbering) → d.degree ≡ 1 → e.degree ≡ 1 → IsNumberingOf a d → IsNumberingOf b e → d.cells ≡ e.cells
+pub same_rows : (a b : RefinedMesh) → IsSameForest a b → (d e : Numbering) → d.degree ≡ 1 → e.degree ≡ 1 → IsNumberingOf a d → IsNumberingOf b e → d.cells ≡ e.cells
 same_rows a b s d e x y n m =
     ext_get_or [] d.cells e.cells (n.count ∙ same_count a b s ∙ sym m.count) (λ c h. same_row a b s d e x y n m c (let l = n.count in omega arith))
 
@@ -84,7 +84,7 @@ same_value t u e = cc
 no_value : (t : List (Option AffineLine)) (r : Refusal) → (let o : Lined = Ok t in o) ≡ Err r → ⊥
 no_value t r e = cc
 
-one_on : (a b : RefinedMesh) → IsSameForest a b → (flags : Flags) (ids : List ℕ) (problem : ProblemParts) (x y : Result MeshProblem Refusal) → SetUpOn flags ids problem a x → SetUpOn flags ids problem b y → AgreeOn x y
+pub one_on : (a b : RefinedMesh) → IsSameForest a b → (flags : Flags) (ids : List ℕ) (problem : ProblemParts) (x y : Result MeshProblem Refusal) → SetUpOn flags ids problem a x → SetUpOn flags ids problem b y → AgreeOn x y
 one_on a b s flags ids problem x y (stops r w e) (stops q v f) = told x y r q e f (same_refusal r q (same_lines a b s ids problem (Err r) (Err q) w v))
 one_on a b s flags ids problem x y (stops r w e) (goes u v k) = absurd (no_value u r (sym (same_lines a b s ids problem (Err r) (Ok u) w v)))
 one_on a b s flags ids problem x y (goes t w h) (stops q v f) = absurd (no_value t q (same_lines a b s ids problem (Ok t) (Err q) w v))
@@ -93,7 +93,7 @@ one_on a b s flags ids problem x y (goes t w h) (goes u v k) =
     one_pattern a b s flags problem u x y (subst P (same_value t u (same_lines a b s ids problem (Ok t) (Ok u) w v)) h) k
 
 -- one fault has one refusal
-one_refusal : (e f : Ending) (r q : Refusal) → e ≡ f → e ≡ Refused r → f ≡ Refused q → r ≡ q
+pub one_refusal : (e f : Ending) (r q : Refusal) → e ≡ f → e ≡ Refused r → f ≡ Refused q → r ≡ q
 one_refusal e f r q s h k = let t : Refused r ≡ Refused q = sym h ∙ s ∙ k in cc
 
 one_from : (mesh : CoarseMesh) (flags : Flags) (ids : List ℕ) (problem : ProblemParts) (x y : Result MeshProblem Refusal) →
@@ -109,13 +109,13 @@ one_from mesh flags ids problem x y (goes a w h) (goes b v k) =
 abbrev pub Meshed : Type 0
 Meshed = Result CoarseMesh MeshFault
 
-same_coarse_fault : (o : Meshed) (f g : MeshFault) → o ≡ Err f → o ≡ Err g → f ≡ g
+pub same_coarse_fault : (o : Meshed) (f g : MeshFault) → o ≡ Err f → o ≡ Err g → f ≡ g
 same_coarse_fault o f g h k = cc
 
-same_coarse_mesh : (o : Meshed) (m n : CoarseMesh) → o ≡ Ok m → o ≡ Ok n → m ≡ n
+pub same_coarse_mesh : (o : Meshed) (m n : CoarseMesh) → o ≡ Ok m → o ≡ Ok n → m ≡ n
 same_coarse_mesh o m n h k = cc
 
-not_coarse : (o : Meshed) (m : CoarseMesh) (f : MeshFault) → o ≡ Ok m → o ≡ Err f → ⊥
+pub not_coarse : (o : Meshed) (m : CoarseMesh) (f : MeshFault) → o ≡ Ok m → o ≡ Err f → ⊥
 not_coarse o m f h k = cc
 
 pub one : HasOneSystem

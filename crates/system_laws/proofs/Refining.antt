@@ -1,6 +1,6 @@
 -- Steps of refinement have an outcome.
-use Rattle.std.proofs.Common.{◌≡◌, ◌∙◌, sym, ap, ap₂, refl, subst, ℕ, zero, suc, ◌<◌, ◌≤◌, ⊎_elim, Bool, true, false, List, [], ◌∷◌, ◌++◌, length, map, slice_index, slice_index_or, length-append, Ok, Err, arith}
-use Rattle.std.specs.Prelude.{◌^◌, nat_le, fold, Some, None}
+use Rattle.std.proofs.Common.{◌≡◌, ◌∙◌, sym, ap, ap₂, refl, subst, ℕ, zero, suc, ◌<◌, ◌≤◌, ⊎_elim, ◌⊎◌, inl, inr, Bool, true, false, List, [], ◌∷◌, ◌++◌, length, map, slice_index, slice_index_or, length-append, Ok, Err, arith}
+use Rattle.std.specs.Prelude.{◌^◌, nat_le, fold, Some, None, IfOk}
 use Rattle.std.specs.declared.option.Option.{Option}
 use Rattle.std.proofs.lemmas.Bool.{cases_lt}
 use Rattle.std.proofs.lemmas.Bool.Decides.{nat_tests}
@@ -57,7 +57,7 @@ names_back mesh [] = refl
 names_back mesh (x ∷ xs) = ap₂ (λ (y : Cell) (ys : List Cell). y ∷ ys) (path_named x) (names_back mesh xs)
 
 -- each corner has the number of its name
-record IsNodeNumbered (forest : RefinedMesh) : Type 0 where
+pub record IsNodeNumbered (forest : RefinedMesh) : Type 0 where
   by_name : (c v : ℕ) → c < length forest.cells → v < 4 → corner_number forest c v ≡ number_of (corner_name forest c v)
 
 made : CoarseMesh → List Cell → RefinedMesh
@@ -167,16 +167,20 @@ some_step old asked s =
     by_verdict old asked set s (is_least old asked (λ k h. past_false n (slice_index asked k) (t k h))) (verdict _ _ _))
     (first_or_none test (length asked))
 
-some_outcome : (steps : List (List ℕ)) (old : RefinedMesh) → IsNodeNumbered old → (outcome : Outcome) × RefinesBy steps old outcome
-some_outcome [] old s = (Ok old, refl)
+some_outcome : (steps : List (List ℕ)) (old : RefinedMesh) → IsNodeNumbered old → (outcome : Outcome) × RefinesBy steps old outcome × IfOk outcome IsNodeNumbered
+some_outcome [] old s = (Ok old, refl, s)
 some_outcome (asked ∷ steps) old s = elim (some_step old asked s) [
-  | is_refused fault is ↦ (Err fault, refused fault is refl)
-  | is_refined new count is after ↦ (let t = some_outcome steps new after in (t.0, refined new count is t.1))
+  | is_refused fault is ↦ (Err fault, refused fault is refl, tt)
+  | is_refined new count is after ↦ (let t = some_outcome steps new after in (t.0, refined new count is t.1, t.2))
 ]
 
 -- each coarse mesh has an outcome of each list of steps
-pub steps_end : (steps : List (List ℕ)) (mesh : CoarseMesh) → (outcome : Outcome) × RefinesBy steps (unrefined mesh) outcome
+pub steps_end : (steps : List (List ℕ)) (mesh : CoarseMesh) → (outcome : Outcome) × RefinesBy steps (unrefined mesh) outcome × IfOk outcome IsNodeNumbered
 steps_end steps mesh = some_outcome steps (unrefined mesh) (start_numbered mesh)
+
+-- and each refined mesh with such numbers one of each step: a fault, or a mesh
+pub step_ends : (old : RefinedMesh) (asked : List ℕ) → IsNodeNumbered old → ((fault : RefineFault) × IsRefusal old asked fault) ⊎ ((new : RefinedMesh) × (count : ℕ) × IsRefinedBy old asked new count)
+step_ends old asked s = elim (some_step old asked s) [ is_refused fault is ↦ inl (fault, is) | is_refined new count is after ↦ inr (new, count, is) ]
 
 same_mesh : (a b : RefinedMesh) → (let r : Outcome = Ok a in r) ≡ Ok b → a ≡ b
 same_mesh a b e = cc

@@ -50,7 +50,7 @@ both : {X Y : Type 0} (first : Result X Refusal → Type 0) (next : X → Result
 both first next (Ok value) w more = let t = more value w in (t.0, goes value w t.1)
 both first next (Err refusal) w more = (Err refusal, stops refusal w refl)
 
-some_on : (flags : Flags) (ids : List ℕ) (problem : ProblemParts) (forest : RefinedMesh) → IsGrown forest → (outcome : Result MeshProblem Refusal) × SetUpOn flags ids problem forest outcome
+pub some_on : (flags : Flags) (ids : List ℕ) (problem : ProblemParts) (forest : RefinedMesh) → IsGrown forest → (outcome : Result MeshProblem Refusal) × SetUpOn flags ids problem forest outcome
 some_on flags ids problem forest g =
     let t = some_lines ids problem forest g in
     both (LinesFor ids problem forest) (PatternedFor flags problem forest) t.0 t.1 (λ table w. some_pattern flags problem forest table)
@@ -68,7 +68,7 @@ refusal_by (coarse.LineOffEdge line) n = (_, refl)
 refusal_by (coarse.BoundaryTwice line) n = (_, refl)
 refusal_by coarse.NoMemory n = absurd (n refl)
 
-coarse_of : (parts : Mesh) (made : Result CoarseMesh MeshFault) → mesh_of parts.points parts.quads parts.lines ≡ made → (o : Result CoarseMesh Refusal) × CoarseOf parts.points parts.quads parts.lines o
+pub coarse_of : (parts : Mesh) (made : Result CoarseMesh MeshFault) → mesh_of parts.points parts.quads parts.lines ≡ made → (o : Result CoarseMesh Refusal) × CoarseOf parts.points parts.quads parts.lines o
 coarse_of parts (Ok mesh) e = (Ok mesh, e)
 coarse_of parts (Err fault) e =
     let P : MeshFault → Type 0 = λ f. mesh_of parts.points parts.quads parts.lines ≡ Err f in

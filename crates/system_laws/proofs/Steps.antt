@@ -15,7 +15,8 @@ use Rattle.hanging_refine.specs.Closure.{IsFirstPast}
 use Rattle.hanging_refine.specs.Step.{refined_below, count_below, first_where}
 use Rattle.hanging_refine.specs.Refinement.{IsClosedUnder, IsStepSet, is_lowest, has_flat, next_count, IsRefinedBy, IsRefusal}
 use Rattle.constrained_mesh.specs.Steps.{Outcome, refused, refined, RefinesBy}
-use Rattle.system_laws.proofs.Forests.{IsSameForest, same_count, same_back, by_cells, carry, same_level}
+use Rattle.system_laws.specs.Same.{IsSameForest}
+use Rattle.system_laws.proofs.Forests.{same_count, same_back, by_cells, carry, same_level}
 
 same_bool : (p q : Bool) → (p ≡ true → q ≡ true) → (q ≡ true → p ≡ true) → p ≡ q
 same_bool true q f g = sym (f refl)

@@ -32,8 +32,8 @@ use Rattle.serial_sum.specs.Parts.{CellPart}
 use Rattle.sparsity.specs.Coupled.{has, rows_of}
 use Rattle.mesh_loop.specs.Setup.{MeshProblem, cells_of, cell_visits, masters_of, visit_masters, coupled_by, coupled_dofs, pattern_of, visit_rows, written_rows}
 use Rattle.mesh_loop.specs.Sum.{part_of, parts_of}
-use Rattle.system_laws.specs.Same.{IsSameSystem}
-use Rattle.system_laws.proofs.Forests.{IsSameForest, same_count, same_coarse, by_cells}
+use Rattle.system_laws.specs.Same.{IsSameForest, IsSameSystem}
+use Rattle.system_laws.proofs.Forests.{same_count, same_coarse, by_cells}
 use Rattle.system_laws.proofs.Visits.{same_visits}
 
 -- the meshes are the same up to the numbers of corners, and so are the dofs of cells and the problem
@@ -162,6 +162,7 @@ one_system s t e = record {
   dofs = e.size;
   lines = e.closed;
   pattern = same_pattern s t e;
+  blocks = λ cell. ap (λ flags. cell_blocks flags s.given cell) e.flags ∙ same_blocks t.flags s.given t.given e.given cell;
   parts = same_parts s t e (cells_of s) ∙ ap (parts_of t) (same_cells s t e);
   in_order = same_parts s t e;
   rows = λ cell. ap (λ rows. rows cell) (same_rows s t e);

@@ -14,7 +14,8 @@ use Rattle.mesh_visits.specs.declared.visit.Visit.TheVariants.{Cell as OnCell, B
 use Rattle.mesh_visits.specs.Meeting.{Face, same_pair, is_face, is_equal, is_half, is_outer_of, is_outer, faces_of_cell, all_faces}
 use Rattle.mesh_visits.specs.Visits.{part_visit, part_visits, equal_visits, visits_up, visits_down, interior_visits, id_of, boundary_visits, face_visits, faces_visits, all_visits}
 use Rattle.mesh_visits.specs.Runs.{Subdomains, is_own_cell, is_chosen, outer_visits, visits_of}
-use Rattle.system_laws.proofs.Forests.{IsSameForest, same_count, by_cells}
+use Rattle.system_laws.specs.Same.{IsSameForest}
+use Rattle.system_laws.proofs.Forests.{same_count, by_cells}
 
 pub same_equal : (a b : RefinedMesh) → IsSameForest a b → is_equal a ≡ is_equal b
 unfolding is_equal
@@ -60,7 +61,7 @@ same_down : (a b : RefinedMesh) → IsSameForest a b → visits_down a ≡ visit
 unfolding Parts
 same_down a b s = ap₂ {C = Face → List Visit} (λ (parts : Parts) (half : ℕ → Face → Face → Bool) (here : Face). parts here Half0 Whole (λ there. half 0 there here) ++ parts here Half1 Whole (λ there. half 1 there here)) (same_parts a b s) (same_half a b s)
 
-same_interior : (a b : RefinedMesh) → IsSameForest a b → interior_visits a ≡ interior_visits b
+pub same_interior : (a b : RefinedMesh) → IsSameForest a b → interior_visits a ≡ interior_visits b
 same_interior a b s =
     ap₂ {C = Face → List Visit} (λ (equal up : Face → List Visit) (here : Face). equal here ++ up here ++ visits_down a here) (same_equals a b s) (same_up a b s)
     ∙ ap {B = Face → List Visit} (λ (down : Face → List Visit) (here : Face). equal_visits b here ++ visits_up b here ++ down here) (same_down a b s)

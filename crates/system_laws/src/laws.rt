@@ -1,6 +1,6 @@
 ghost use Rattle.ucd_read.specs.Ucd.{Ucd};
 ghost use Rattle.msh_read.specs.Msh.{Msh};
-ghost use Rattle.system_laws.specs.Laws.{HasOneSystem, HasASetUp, TextsHaveQuadrilaterals};
+ghost use Rattle.system_laws.specs.Laws.{HasOneSystem, HasASetUp, HasOneForest, HasOneFinerForest, HasOneSystemOn, HasAForest, TextsHaveQuadrilaterals};
 
 use msh_read::quadrilaterals_have_four_corners;
 
@@ -15,6 +15,20 @@ pub fn a_mesh_has_one_system()
 /// empty.
 pub fn a_mesh_has_a_set_up()
     ensures { HasASetUp }
+{}
+
+/// The refinement of a mesh by the steps of a problem has one outcome at most, and so has one more step on it, and the set-up
+/// on what these give: one refusal, or refined meshes with the same cells, and set-ups of one system.
+pub fn refined_meshes_are_one()
+    ensures forest { HasOneForest }
+    ensures finer { HasOneFinerForest }
+    ensures system { HasOneSystemOn }
+{}
+
+/// The refinement of a mesh of quadrilaterals has an outcome, and so has one more step on it, of any cells, and the set-up on
+/// what that gives.
+pub fn a_mesh_can_be_refined()
+    ensures { HasAForest }
 {}
 
 /// Each cell that a mesh text in UCD or in MSH calls a quadrilateral has four corners.

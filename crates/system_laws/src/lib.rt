@@ -3,4 +3,7 @@
 
 mod laws;
 
-pub use laws::{a_mesh_has_a_set_up, a_mesh_has_one_system, texts_have_quadrilaterals};
+pub use laws::{
+    a_mesh_can_be_refined, a_mesh_has_a_set_up, a_mesh_has_one_system, refined_meshes_are_one,
+    texts_have_quadrilaterals,
+};

@@ -1,55 +1,91 @@
 -- The steps of a set-up, one after another.
-use Rattle.std.proofs.Common.{◌≡◌, ℕ, List, Ok, Err, IfOk, IfErr, subst}
+use Rattle.std.proofs.Common.{◌≡◌, sym, refl, ℕ, List, Ok, Err, IfOk, IfErr, subst}
 use Rattle.std.specs.declared.result.Result.{Result}
 use Rattle.std.specs.declared.option.Option.{Option}
 use Rattle.fem_fixed.specs.Mesh.{Mesh}
-use Rattle.quad_mesh.specs.Mesh.{CoarseMesh}
+use Rattle.hanging_refine.specs.declared.fault.RefineFault.{RefineFault}
+use Rattle.hanging_refine.specs.declared.fault.RefineFault.TheVariants as refining
 use Rattle.hanging_refine.specs.Refined.{RefinedMesh}
+use Rattle.hanging_refine.specs.Refinement.{IsRefusal}
 use Rattle.affine_constraints.specs.Lines.{AffineLine}
 use Rattle.problem_read.specs.Entries.{ProblemParts}
 use Rattle.mesh_visits.specs.declared.flags.Flags.{Flags}
 use Rattle.mesh_loop.specs.Setup.{MeshProblem}
+use Rattle.diagnostics.specs.declared.refusal.Refusal.{Refusal}
 use Rattle.diagnostics.specs.declared.ending.Ending.{Ending}
-use Rattle.diagnostics.specs.Stages.{EndsIn}
-use Rattle.diagnostics.proofs.StageLaws.{ends_first, ends_next, goes_well}
-use Rattle.system_setup.specs.SetUp.{CoarseOf, RefinedFrom, LinesFor, PatternedFor, IsSetUp}
+use Rattle.diagnostics.specs.declared.ending.Ending.TheVariants.{Refused, ReadFault, WriteFault, NoMemory}
+use Rattle.diagnostics.specs.Stages.{Then, stops, goes, EndsIn}
+use Rattle.diagnostics.proofs.StageLaws.{ends_next, goes_well}
+use Rattle.system_setup.specs.Endings.{of_refining}
+use Rattle.system_setup.specs.SetUp.{ForestOf, RefinedFurther, LinesFor, PatternedFor, SetUpOn, IsSetUp}
 
-pub mesh_ends : (flags : Flags) (parts : Mesh) (problem : ProblemParts) (e : Ending) → EndsIn (CoarseOf parts.points parts.quads parts.lines) e → EndsIn (IsSetUp flags parts problem) e
-mesh_ends flags parts problem e h = ends_first _ _ e h
+same_refusal : {Y : Type 0} (r q : Refusal) → ◌≡◌ {A = Result Y Refusal} (Err r) (Err q) → r ≡ q
+same_refusal r q same = cc
 
-pub forest_ends : (flags : Flags) (parts : Mesh) (problem : ProblemParts) (mesh : CoarseMesh) (e : Ending) → CoarseOf parts.points parts.quads parts.lines (Ok mesh) → EndsIn (RefinedFrom mesh problem) e →
+no_value : {Y : Type 0} {P : Type 0} (y : Y) (r : Refusal) → ◌≡◌ {A = Result Y Refusal} (Ok y) (Err r) → P
+no_value y r same = cc
+
+-- two steps and a third are a step and two
+regrouped : {X Y Z : Type 0} (first : Result X Refusal → Type 0) (second : X → Result Y Refusal → Type 0) (third : Y → Result Z Refusal → Type 0) (outcome : Result Z Refusal) →
+    Then (Then first second) third outcome → Then first (λ x. Then (second x) third) outcome
+regrouped {Y = Y} first second third outcome (stops refusal (stops other f same) is) = stops refusal (subst (λ r. first (Err r)) (sym (same_refusal {Y = Y} refusal other same)) f) is
+regrouped first second third outcome (stops refusal (goes x f s) is) = goes x f (stops refusal s is)
+regrouped {Y = Y} first second third outcome (goes y (stops other f same) t) = no_value {Y = Y} y other same
+regrouped first second third outcome (goes y (goes x f s) t) = goes x f (goes y s t)
+
+pub set_up_of : (flags : Flags) (parts : Mesh) (problem : ProblemParts) (outcome : Result MeshProblem Refusal) → Then (ForestOf parts problem) (SetUpOn flags parts.ids problem) outcome →
+    IsSetUp flags parts problem outcome
+set_up_of flags parts problem outcome h = regrouped _ _ _ outcome h
+
+ends_of : (flags : Flags) (parts : Mesh) (problem : ProblemParts) (e : Ending) → EndsIn (Then (ForestOf parts problem) (SetUpOn flags parts.ids problem)) e →
     EndsIn (IsSetUp flags parts problem) e
-forest_ends flags parts problem mesh e m h = ends_next _ _ mesh e m (ends_first _ _ e h)
+ends_of flags parts problem (Refused refusal) h = set_up_of flags parts problem (Err refusal) h
+ends_of flags parts problem (ReadFault role) h = h
+ends_of flags parts problem (WriteFault output) h = h
+ends_of flags parts problem NoMemory h = h
 
-pub lines_end : (flags : Flags) (parts : Mesh) (problem : ProblemParts) (mesh : CoarseMesh) (forest : RefinedMesh) (ids : List ℕ) (e : Ending) → CoarseOf parts.points parts.quads parts.lines (Ok mesh) →
-    RefinedFrom mesh problem (Ok forest) → ids ≡ parts.ids → EndsIn (LinesFor ids problem forest) e → EndsIn (IsSetUp flags parts problem) e
-lines_end flags parts problem mesh forest ids e m f is h =
-    let P : List ℕ → Type 0 = λ xs. EndsIn (LinesFor xs problem forest) e in
-    ends_next _ _ mesh e m (ends_next _ _ forest e f (ends_first _ _ e (subst P is h)))
+forest_ends_both : (flags : Flags) (parts : Mesh) (problem : ProblemParts) (e : Ending) → EndsIn (ForestOf parts problem) e →
+    EndsIn (Then (ForestOf parts problem) (SetUpOn flags parts.ids problem)) e
+forest_ends_both flags parts problem (Refused refusal) h = stops refusal h refl
+forest_ends_both flags parts problem (ReadFault role) h = h
+forest_ends_both flags parts problem (WriteFault output) h = h
+forest_ends_both flags parts problem NoMemory h = h
 
-pub pattern_ends : (flags : Flags) (parts : Mesh) (problem : ProblemParts) (mesh : CoarseMesh) (forest : RefinedMesh) (ids : List ℕ) (table : List (Option AffineLine)) (e : Ending) →
-    CoarseOf parts.points parts.quads parts.lines (Ok mesh) → RefinedFrom mesh problem (Ok forest) → ids ≡ parts.ids → LinesFor ids problem forest (Ok table) →
-    EndsIn (PatternedFor flags problem forest table) e → EndsIn (IsSetUp flags parts problem) e
-pattern_ends flags parts problem mesh forest ids table e m f is l h =
-    let P : List ℕ → Type 0 = λ xs. LinesFor xs problem forest (Ok table) in
-    ends_next _ _ mesh e m (ends_next _ _ forest e f (ends_next _ _ table e (subst P is l) h))
+-- the refined mesh ends it
+pub forest_ends : (flags : Flags) (parts : Mesh) (problem : ProblemParts) (e : Ending) → EndsIn (ForestOf parts problem) e → EndsIn (IsSetUp flags parts problem) e
+forest_ends flags parts problem e h = ends_of flags parts problem e (forest_ends_both flags parts problem e h)
 
-pub goes : (flags : Flags) (parts : Mesh) (problem : ProblemParts) (mesh : CoarseMesh) (forest : RefinedMesh) (ids : List ℕ) (table : List (Option AffineLine)) (s : MeshProblem) →
-    CoarseOf parts.points parts.quads parts.lines (Ok mesh) → RefinedFrom mesh problem (Ok forest) → ids ≡ parts.ids → LinesFor ids problem forest (Ok table) →
-    PatternedFor flags problem forest table (Ok s) → IsSetUp flags parts problem (Ok s)
-goes flags parts problem mesh forest ids table s m f is l h =
-    let P : List ℕ → Type 0 = λ xs. LinesFor xs problem forest (Ok table) in
-    goes_well _ _ mesh s m (goes_well _ _ forest s f (goes_well _ _ table s (subst P is l) h))
+-- what is set up on the refined mesh, or ends it
+pub result_goes : (flags : Flags) (parts : Mesh) (problem : ProblemParts) (forest : RefinedMesh) (ids seen : List ℕ) (result : Result MeshProblem Ending) →
+    ForestOf parts problem (Ok forest) → ids ≡ parts.ids → seen ≡ ids → IfOk result (λ s. SetUpOn flags seen problem forest (Ok s)) → IfOk result (λ s. IsSetUp flags parts problem (Ok s))
+result_goes flags parts problem forest ids seen (Ok s) f is same h =
+    set_up_of flags parts problem (Ok s) (goes forest f (subst (λ xs. SetUpOn flags xs problem forest (Ok s)) is (subst (λ xs. SetUpOn flags xs problem forest (Ok s)) same h)))
+result_goes flags parts problem forest ids seen (Err e) f is same h = tt
 
--- the same of a result
-pub result_goes : (flags : Flags) (parts : Mesh) (problem : ProblemParts) (mesh : CoarseMesh) (forest : RefinedMesh) (ids : List ℕ) (table : List (Option AffineLine)) (result : Result MeshProblem Ending) →
-    CoarseOf parts.points parts.quads parts.lines (Ok mesh) → RefinedFrom mesh problem (Ok forest) → ids ≡ parts.ids → LinesFor ids problem forest (Ok table) →
-    IfOk result (λ s. PatternedFor flags problem forest table (Ok s)) → IfOk result (λ s. IsSetUp flags parts problem (Ok s))
-result_goes flags parts problem mesh forest ids table (Ok s) m f is l h = goes flags parts problem mesh forest ids table s m f is l h
-result_goes flags parts problem mesh forest ids table (Err e) m f is l h = h
+pub result_ends : (flags : Flags) (parts : Mesh) (problem : ProblemParts) (forest : RefinedMesh) (ids seen : List ℕ) (result : Result MeshProblem Ending) →
+    ForestOf parts problem (Ok forest) → ids ≡ parts.ids → seen ≡ ids → IfErr result (EndsIn (SetUpOn flags seen problem forest)) → IfErr result (EndsIn (IsSetUp flags parts problem))
+result_ends flags parts problem forest ids seen (Ok s) f is same h = tt
+result_ends flags parts problem forest ids seen (Err e) f is same h =
+    ends_of flags parts problem e
+    (ends_next (ForestOf parts problem) (SetUpOn flags parts.ids problem) forest e f
+    (subst (λ xs. EndsIn (SetUpOn flags xs problem forest) e) is (subst (λ xs. EndsIn (SetUpOn flags xs problem forest) e) same h)))
 
-pub result_ends : (flags : Flags) (parts : Mesh) (problem : ProblemParts) (mesh : CoarseMesh) (forest : RefinedMesh) (ids : List ℕ) (table : List (Option AffineLine)) (result : Result MeshProblem Ending) →
-    CoarseOf parts.points parts.quads parts.lines (Ok mesh) → RefinedFrom mesh problem (Ok forest) → ids ≡ parts.ids → LinesFor ids problem forest (Ok table) →
-    IfErr result (EndsIn (PatternedFor flags problem forest table)) → IfErr result (EndsIn (IsSetUp flags parts problem))
-result_ends flags parts problem mesh forest ids table (Ok s) m f is l h = h
-result_ends flags parts problem mesh forest ids table (Err e) m f is l h = pattern_ends flags parts problem mesh forest ids table e m f is l h
+-- the pattern on the refined mesh, behind the lines
+pub pattern_goes : (flags : Flags) (ids : List ℕ) (problem : ProblemParts) (forest : RefinedMesh) (table : List (Option AffineLine)) (result : Result MeshProblem Ending) →
+    LinesFor ids problem forest (Ok table) → IfOk result (λ s. PatternedFor flags problem forest table (Ok s)) → IfOk result (λ s. SetUpOn flags ids problem forest (Ok s))
+pattern_goes flags ids problem forest table (Ok s) l h = goes table l h
+pattern_goes flags ids problem forest table (Err e) l h = tt
+
+pub pattern_ends : (flags : Flags) (ids : List ℕ) (problem : ProblemParts) (forest : RefinedMesh) (table : List (Option AffineLine)) (result : Result MeshProblem Ending) →
+    LinesFor ids problem forest (Ok table) → IfErr result (EndsIn (PatternedFor flags problem forest table)) → IfErr result (EndsIn (SetUpOn flags ids problem forest))
+pattern_ends flags ids problem forest table (Ok s) l h = tt
+pattern_ends flags ids problem forest table (Err e) l h = ends_next (LinesFor ids problem forest) (PatternedFor flags problem forest) table e l h
+
+-- a refused step
+pub further_ends : (forest : RefinedMesh) (cells : List ℕ) (fault : RefineFault) (e : Ending) → e ≡ of_refining fault → ((fault ≡ refining.NoMemory → ⊥) → IsRefusal forest cells fault) →
+    EndsIn (RefinedFurther forest cells) e
+further_ends forest cells (refining.NoSuchCell cell) e is h = subst (EndsIn (RefinedFurther forest cells)) (sym is) (refining.NoSuchCell cell, h (λ same. cc), refl)
+further_ends forest cells (refining.Level cell) e is h = subst (EndsIn (RefinedFurther forest cells)) (sym is) (refining.Level cell, h (λ same. cc), refl)
+further_ends forest cells refining.Limit e is h = subst (EndsIn (RefinedFurther forest cells)) (sym is) (refining.Limit, h (λ same. cc), refl)
+further_ends forest cells (refining.Flat cell) e is h = subst (EndsIn (RefinedFurther forest cells)) (sym is) (refining.Flat cell, h (λ same. cc), refl)
+further_ends forest cells refining.NoMemory e is h = subst (EndsIn (RefinedFurther forest cells)) (sym is) tt

@@ -8,6 +8,7 @@ use Rattle.fem_fixed.specs.declared.mesh.QuadSpec.{QuadSpec}
 use Rattle.fem_fixed.specs.declared.mesh.LineSpec.{LineSpec}
 use Rattle.quad_mesh.specs.Mesh.{CoarseMesh, mesh_of}
 use Rattle.hanging_refine.specs.Refined.{RefinedMesh, unrefined}
+use Rattle.hanging_refine.specs.Refinement.{IsRefinedBy, IsRefusal}
 use Rattle.affine_constraints.specs.Lines.{AffineLine, lines_in}
 use Rattle.dof_numbers.specs.Dofs.{IsNumberingOf}
 use Rattle.problem_read.specs.Entries.{ProblemParts}
@@ -33,6 +34,15 @@ CoarseOf points quads lines (Err refusal) = Says of_mesh (λ fault. mesh_of poin
 abbrev pub RefinedFrom : CoarseMesh → ProblemParts → Result RefinedMesh Refusal → Type 0
 RefinedFrom mesh problem (Ok forest) = RefinesBy problem.steps (unrefined mesh) (Ok forest)
 RefinedFrom mesh problem (Err refusal) = Says of_refining (λ fault. RefinesBy problem.steps (unrefined mesh) (Err fault)) refusal
+
+-- the refined mesh of a mesh and a problem
+abbrev pub ForestOf : Mesh → ProblemParts → Result RefinedMesh Refusal → Type 0
+ForestOf parts problem = Then (CoarseOf parts.points parts.quads parts.lines) (λ mesh. RefinedFrom mesh problem)
+
+-- the mesh after one more step of refinement, of these cells, or why it is refused
+abbrev pub RefinedFurther : RefinedMesh → List ℕ → Result RefinedMesh Refusal → Type 0
+RefinedFurther forest cells (Ok finer) = (count : ℕ) × IsRefinedBy forest cells finer count
+RefinedFurther forest cells (Err refusal) = Says of_refining (λ fault. IsRefusal forest cells fault) refusal
 
 -- the node ids of a mesh text, by position, and the refined mesh, with dofs of degree 1
 abbrev pub nodes_of : List ℕ → RefinedMesh → Nodes

@@ -5,4 +5,4 @@
 mod endings;
 mod steps;
 
-pub use steps::set_up;
+pub use steps::{refined_further, refined_mesh, set_up, set_up_on};

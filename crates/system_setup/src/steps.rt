@@ -2,7 +2,7 @@ ghost use Rattle.std.specs.Prelude.{◌≡◌, ◌≤◌, ◌^◌, length, Ok, I
 ghost use Rattle.dof_numbers.specs.Dofs.{IsNumberingOf};
 ghost use Rattle.ucd_read.specs.Bounds.{IsBounded};
 ghost use Rattle.diagnostics.specs.Stages.{EndsIn};
-ghost use Rattle.system_setup.specs.SetUp.{CoarseOf, RefinedFrom, LinesFor, PatternedFor, IsSetUp};
+ghost use Rattle.system_setup.specs.SetUp.{CoarseOf, RefinedFrom, ForestOf, RefinedFurther, LinesFor, PatternedFor, SetUpOn, IsSetUp};
 
 use crate::endings::{constraints_ending, mesh_ending, pattern_ending, refining_ending};
 use affine_constraints::Closed;
@@ -37,20 +37,77 @@ pub fn set_up(
     ensures ok { IfOk result (λ setup. IsSetUp flags parts problem (Ok setup)) }
     ensures refused { IfErr result (EndsIn (IsSetUp flags parts problem)) }
 {
+    let (ids, forest) = match refined_mesh(alloc, parts, &problem) {
+        Ok(made) => made,
+        Err(ending) => return Err(ending),
+    };
+    set_up_on(rt, alloc, ids.as_slice(), forest, problem, flags)
+}
+
+/// The set-up of the system of a problem on a refined mesh, with the node ids of the mesh text, by position, and with the
+/// visits of the run of these flags.
+///
+/// # Errors
+///
+/// The first refusal in the order of work: a fault of the constraints, or that the pattern has more than 33,554,432 entries.
+pub fn set_up_on(
+    rt: &(impl Threads + Sync),
+    alloc: Global,
+    ids: &[u32],
+    forest: Forest,
+    problem: Problem,
+    flags: Flags,
+) -> Result<Setup, Ending>
+    requires ids { length ids.now ≤ 2 ^ 20 }
+    ensures ok { IfOk result (λ setup. SetUpOn flags ids.now problem forest (Ok setup)) }
+    ensures refused { IfErr result (EndsIn (SetUpOn flags ids.now problem forest)) }
+{
+    match numbered_lines(alloc, &forest, ids, &problem) {
+        Ok((dofs, closed)) => with_pattern(rt, alloc, forest, dofs, closed, problem, flags),
+        Err(ending) => Err(ending),
+    }
+}
+
+/// The node ids of a mesh text, by position, and the mesh after the problem's steps of refinement.
+///
+/// # Errors
+///
+/// The first refusal in the order of work: a fault of the coarse mesh, or of a step of refinement.
+pub fn refined_mesh(
+    alloc: Global,
+    parts: MeshParts,
+    problem: &Problem,
+) -> Result<(Vec<u32>, Forest), Ending>
+    requires bounded { IsBounded parts }
+    ensures ids { IfOk result (λ made. made.0.items ≡ parts.ids) }
+    ensures ok { IfOk result (λ made. ForestOf parts problem.now (Ok made.1)) }
+    ensures refused { IfErr result (EndsIn (ForestOf parts problem.now)) }
+{
     let (ids, mesh) = match coarse_mesh(alloc, parts) {
         Ok(made) => made,
         Err(ending) => return Err(ending),
     };
-    let forest = match refined(alloc, mesh, &problem) {
-        Ok(forest) => forest,
-        Err(ending) => return Err(ending),
-    };
-    let dofs = Dofs::number(alloc, &forest, 1)?;
-    let closed = match closed_lines(alloc, &forest, &dofs, &ids, &problem) {
-        Ok(closed) => closed,
-        Err(ending) => return Err(ending),
-    };
-    with_pattern(rt, alloc, forest, dofs, closed, problem, flags)
+    match refined(alloc, mesh, problem) {
+        Ok(forest) => Ok((ids, forest)),
+        Err(ending) => Err(ending),
+    }
+}
+
+/// The mesh after one more step of refinement, of these cells.
+///
+/// # Errors
+///
+/// Why the step is refused: a cell would be refined more than twelve times, there would be more than 1,048,576 active cells,
+/// or a child would be flat.
+pub fn refined_further(forest: Forest, cells: &[u32]) -> Result<Forest, Ending>
+    ensures ok { IfOk result (λ finer. RefinedFurther forest cells.now (Ok finer)) }
+    ensures refused { IfErr result (EndsIn (RefinedFurther forest cells.now)) }
+{
+    let mut finer = forest;
+    match finer.refine(cells) {
+        Ok(_) => Ok(finer),
+        Err(fault) => Err(refining_ending(fault)),
+    }
 }
 
 /// The node ids and the coarse mesh.
@@ -76,6 +133,27 @@ fn refined(alloc: Global, mesh: QuadMesh, problem: &Problem) -> Result<Forest, E
     match refine_by_steps(&mut forest, problem) {
         Ok(()) => Ok(forest),
         Err(fault) => Err(refining_ending(fault)),
+    }
+}
+
+/// The numbers of the dofs, and the closed lines of the constrained ones.
+fn numbered_lines(
+    alloc: Global,
+    forest: &Forest,
+    ids: &[u32],
+    problem: &Problem,
+) -> Result<(Dofs, Closed), Ending>
+    requires ids { length ids.now ≤ 2 ^ 20 }
+    ensures degree { IfOk result (λ made. made.0.degree ≡ 1) }
+    ensures numbered { IfOk result (λ made. IsNumberingOf forest.now made.0) }
+    ensures size { IfOk result (λ made. length made.1 ≡ made.0.size) }
+    ensures ok { IfOk result (λ made. LinesFor ids.now problem.now forest.now (Ok made.1)) }
+    ensures refused { IfErr result (EndsIn (LinesFor ids.now problem.now forest.now)) }
+{
+    let dofs = Dofs::number(alloc, forest, 1)?;
+    match closed_lines(alloc, forest, &dofs, ids, problem) {
+        Ok(closed) => Ok((dofs, closed)),
+        Err(ending) => Err(ending),
     }
 }
 

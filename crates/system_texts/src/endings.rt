@@ -20,7 +20,7 @@ pub(crate) fn sum_ending(fault: AssembleFault) -> Ending
 }
 
 /// The kind that is told of a fault of a local form.
-fn local_kind(fault: LocalFault) -> LocalKind
+pub fn local_kind(fault: LocalFault) -> LocalKind
     ensures { result ≡ of_local fault }
 {
     match fault {

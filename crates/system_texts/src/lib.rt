@@ -6,5 +6,6 @@ mod endings;
 mod sums;
 mod targets;
 
-pub use sums::{sum_rows, sum_rows_by_pipeline};
+pub use endings::local_kind;
+pub use sums::{colors_of, plan_of, sum_rows, sum_rows_by_pipeline};
 pub use targets::make_targets;

@@ -82,7 +82,7 @@ pub fn sum_rows_by_pipeline<G: Gate + Sync, R: Threads + Wait + Sync>(
 }
 
 /// How the workers go.
-fn plan_of(options: &Options<'_>) -> Plan
+pub fn plan_of(options: &Options<'_>) -> Plan
     requires within { IsWithinRanges (seen options.now) }
     ensures within { IsPlanWithin result }
     ensures digits { result.digits ≡ options.now.digits }
@@ -97,7 +97,7 @@ fn plan_of(options: &Options<'_>) -> Plan
 }
 
 /// A colouring of the cells, in which cells that write one row conflict.
-pub(crate) fn colors_of(alloc: Global, setup: &Setup) -> Result<Colors, NoMemory>
+pub fn colors_of(alloc: Global, setup: &Setup) -> Result<Colors, NoMemory>
     ensures { IfOk result (IsColoringOf setup.now) }
 {
     let conflicts = conflicts(alloc, setup)?;

@@ -20,3 +20,6 @@ returns-in-Cells g c = rw c.in-Cells.is c.put_word-in-Cells.ensures
 
 pub returns-in-Entries : goal.returns-in-Entries
 returns-in-Entries g c = rw c.in-Entries.is c.put_word-in-Entries.ensures
+
+pub returns-in-VectorSize : goal.returns-in-VectorSize
+returns-in-VectorSize g c = rw c.in-VectorSize.is c.put_word-in-VectorSize.ensures

@@ -1,7 +1,7 @@
 use Rattle.std.proofs.Common.{sym, subst}
 use Rattle.std.specs.Prelude.{Ok, IfOk, IfErr}
 use Rattle.run_words.specs.Choice.{seen_source}
-use Rattle.run_texts.specs.Read.{SourceRead, EndsReading, ReadsMade}
+use Rattle.run_texts.specs.Read.{SourceRead, EndsReading, SourceReads}
 use Rattle.run_texts.proofs.Sources.{drawn_ends, drawn_reads}
 use Rattle.run_texts.proofs.source.read_source.Goals as goal
 
@@ -19,9 +19,9 @@ returns-in-Generated-clause-ends g c =
 
 pub returns-in-Texts-clause-calls : goal.returns-in-Texts-clause-calls
 returns-in-Texts-clause-calls g c =
-    subst (λ source. ReadsMade (seen_source source) c.read_both.result (g.S.Store.counts c.args.store.now) (g.S.Store.counts c.read_both.new.store)) (sym c.in-Texts.is) c.read_both.ensures.calls
+    subst (λ source. SourceReads (seen_source source) c.read_both.result (g.S.Store.counts c.args.store.now) (g.S.Store.counts c.read_both.new.store)) (sym c.in-Texts.is) c.read_both.ensures.calls
 
 pub returns-in-Generated-clause-calls : goal.returns-in-Generated-clause-calls
 returns-in-Generated-clause-calls g c =
-    subst (λ source. ReadsMade (seen_source source) c.drawn.result (g.S.Store.counts c.args.store.now) (g.S.Store.counts c.args.store.now)) (sym c.in-Generated.is)
+    subst (λ source. SourceReads (seen_source source) c.drawn.result (g.S.Store.counts c.args.store.now) (g.S.Store.counts c.args.store.now)) (sym c.in-Generated.is)
     (drawn_reads c.in-Generated.n c.in-Generated.seed c.drawn.result (g.S.Store.counts c.args.store.now) c.drawn.ensures.never)

@@ -20,3 +20,9 @@ returns-in-Sum g c = rw c.in-Sum.is c.put_sum.ensures
 
 pub returns-in-Absent : goal.returns-in-Absent
 returns-in-Absent g c = rw c.in-Absent.is (rw (← c.word-in-Absent.ensures) c.put_word-in-Absent.ensures)
+
+pub returns-in-Vector : goal.returns-in-Vector
+returns-in-Vector g c = rw c.in-Vector.is c.put_vector.ensures
+
+pub returns-in-Product : goal.returns-in-Product
+returns-in-Product g c = rw c.in-Product.is c.put_fault-in-Product.ensures

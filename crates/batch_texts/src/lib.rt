@@ -1,0 +1,8 @@
+//! The texts of a batch: each name is read once, and all of them together have a limit.
+#![tactic(auto)]
+
+mod shelf;
+mod shelf_store;
+
+pub use shelf::{NameFault, Shelf};
+pub use shelf_store::ShelfStore;

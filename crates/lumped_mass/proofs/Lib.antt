@@ -1,0 +1,8 @@
+mod Sizes
+mod Totals
+mod Members
+mod Numbered
+mod Pipeline
+mod Wraps
+mod Rounds
+mod Colors

@@ -1,0 +1,3 @@
+pub mod Masses
+pub mod Sums
+pub mod Rows

@@ -1,0 +1,4 @@
+pub mod Lines
+pub mod Small
+pub mod Fit
+pub mod Chain

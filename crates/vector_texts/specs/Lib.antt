@@ -1,0 +1,5 @@
+pub mod Endings
+pub mod Fitting
+pub mod Product
+pub mod Text
+pub mod Marks
