@@ -53,11 +53,15 @@ pub record IsNameFault (holds : Option Held) (name : List ℕ) (texts : Named) (
   pub new : is_shelved texts name ≡ false
   pub cause : IsCause holds name texts fault
 
+-- the read failed: it isn't that the name isn't held, that its text is too large, or that memory ran out
+abbrev pub is_failed : NameFault → Bool
+is_failed Failed = true
+is_failed Absent = false
+is_failed Size = false
+is_failed NoMemory = false
+
 abbrev pub has_failed : Result Unit NameFault → Bool
-has_failed (Err Failed) = true
-has_failed (Err Absent) = false
-has_failed (Err Size) = false
-has_failed (Err NoMemory) = false
+has_failed (Err fault) = is_failed fault
 has_failed (Ok unit) = false
 
 -- a name that is there is no read; any other is one
