@@ -93,6 +93,9 @@ def cases():
     yield "a text of 268,435,456 blanks", {"mesh.inp": blanks(268_435_456)}, mesh, 3, b"assemble: 3 MeshText"
     yield "a text of one blank more", {"mesh.inp": blanks(268_435_457)}, mesh, 9, b"assemble: 9 Limit MeshSize\n"
     yield "a problem of one blank more", {"mesh.inp": text(SQUARE), "problem.txt": blanks(268_435_457)}, SUMMARY, 9, b"assemble: 9 Limit ProblemSize\n"
+    vector = [*mesh, "--mode", "product", "--vector", "x.mtx"]
+    yield "a vector of 268,435,456 blanks", {"mesh.inp": text(SQUARE), "x.mtx": blanks(268_435_456)}, vector, 14, b"assemble: 14 VectorText line 1 Banner\n"
+    yield "a vector of one blank more", {"mesh.inp": text(SQUARE), "x.mtx": blanks(268_435_457)}, vector, 9, b"assemble: 9 Limit VectorSize\n"
     yield "1,048,576 nodes", {"mesh.inp": text(scattered(262_144))}, [*mesh, "--summary"], 0, b"cells 262144\n"
     yield "1,048,577 nodes", {"mesh.inp": text(["1048577 0 0 0 0"])}, mesh, 9, b"assemble: 9 Limit MeshCount line 1\n"
     yield "33,554,432 pairs", groups(8184, 2), PATTERN, 0, b""
