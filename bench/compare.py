@@ -15,6 +15,7 @@ import tempfile
 from collections import Counter
 from dataclasses import dataclass
 
+from batch_cases import random_batch
 from mesh_cases import random_mesh, random_mesh_text
 from msh_cases import BARE as BARE_MSH, random_msh_text
 from problem_cases import random_problem_text
@@ -40,9 +41,11 @@ class Case:
 
 
 def case_of(seed, number, chosen):
-    """Case `number` of a seed, which no other case has a part in; how likely its mesh text is in MSH, and its mode one that takes a
-    vector, is chosen by `--msh` and `--vectors`."""
+    """Case `number` of a seed, which no other case has a part in; how likely it is a batch, its mesh text is in MSH, and its mode one
+    that takes a vector, is chosen by `--batches`, `--msh` and `--vectors`."""
     rng = random.Random(f"{seed}/{number}")
+    if rng.random() < chosen.batches:
+        return Case(*random_batch(rng))
     where = rng.choices(["none", "mesh", "problem", "words"], [10, 4, 4, 3])[0]
     faults = {name: rng.choice([1, 1, 2]) if name == where else 0 for name in ("mesh", "problem", "words")}
     mesh = random_mesh(rng)
@@ -119,7 +122,7 @@ def report(number, case, ours, peers, chosen):
             print(f"  output line {k}: {a[:80]!r} and {b[:80]!r}")
             break
     print(f"  repeat: bench/compare.py --program {chosen.program} --peer {chosen.peer} --seed {chosen.seed} "
-          f"--msh {chosen.msh} --vectors {chosen.vectors} --only {number} --keep FOLDER", flush=True)
+          f"--msh {chosen.msh} --vectors {chosen.vectors} --batches {chosen.batches} --only {number} --keep FOLDER", flush=True)
 
 
 def main():
@@ -127,6 +130,7 @@ def main():
     add_program_options(parser, "required")
     add_case_options(parser, count=1000, limit=60.0)
     parser.add_argument("--vectors", type=float, default=0.3, help="how likely a mode takes a vector (default 0.3)")
+    parser.add_argument("--batches", type=float, default=0.1, help="how likely a case is a batch (default 0.1)")
     parser.add_argument("--msh", type=float, default=0.3, help="how likely a mesh text is in MSH (default 0.3)")
     chosen = parser.parse_args()
     if chosen.only is not None and chosen.keep:

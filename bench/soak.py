@@ -7,7 +7,8 @@ For each random mesh and problem the bytes are to be these, whatever the workers
 
 - `ordered` gives what `serial` gives, with any digits, its diagnostic too;
 - `colored` gives what it gives with one worker, with any digits;
-- `colored` with digits 0 gives what `serial` gives where that has a sum, and fails where a local form of it fails.
+- `colored` with digits 0 gives what `serial` gives where that has a sum, and fails where a local form of it fails;
+- a batch gives what it gives with one worker.
 
 A run that passes its limit hangs, and is told like a difference.
 """
@@ -17,6 +18,7 @@ import shlex
 import tempfile
 from collections import Counter
 
+from batch_cases import random_batch_text, random_texts
 from compare import differences, kind_of, Case
 from mesh_cases import random_mesh, random_mesh_text
 from problem_cases import random_problem_text
@@ -34,6 +36,15 @@ def case_of(seed, number):
     mesh = random_mesh(rng)
     texts = {"mesh.inp": random_mesh_text(rng, mesh, 0), "problem.txt": random_problem_text(rng, mesh, 0)}
     return rng, Case(shared + ["--mesh", "mesh.inp", "--problem", "problem.txt"], texts, None)
+
+
+def batch_of(seed, number):
+    """A batch of up to twenty jobs, and its words but for the number of workers."""
+    rng = random.Random(f"soak batch {seed}/{number}")
+    count = rng.choice([1, 2, 3])
+    texts = random_texts(rng, count, lambda: 1 if rng.random() < 0.1 else 0)
+    texts["batch.txt"] = b"\n".join(random_batch_text(rng, count, 0) for _ in range(rng.choice([1, 1, 2])))
+    return rng, Case(["--batch", "batch.txt"], texts, None)
 
 
 def random_plan(rng):
@@ -78,26 +89,46 @@ def soak_case(number, chosen):
     return number, case, serial, faults
 
 
+def soak_batch(number, chosen):
+    """Runs one batch; the differences as words, the run that was expected and the one that came."""
+    rng, case = batch_of(chosen.seed, number)
+    with tempfile.TemporaryDirectory() as folder:
+        placed(case.texts, folder)
+
+        def run(workers):
+            return run_in(folder, chosen.program, [*case.words, "--workers", str(workers)], limit=chosen.limit)
+
+        expected, faults = run(1), []
+        for _ in range(chosen.plans):
+            workers = rng.choice([2, 3, 4, 8, rng.randint(1, 64), 64])
+            came = run(workers)
+            if differences(expected, came) or came.status is None:
+                faults.append((f"--workers {workers}", expected, came))
+    return number, case, expected, faults
+
+
 def main():
     parser = argparse.ArgumentParser(description=__doc__, formatter_class=argparse.RawDescriptionHelpFormatter)
     add_program_options(parser, "none")
     add_case_options(parser, count=100, limit=20.0)
+    parser.add_argument("--batches", action="store_true", help="batches alone")
     parser.add_argument("--plans", type=int, default=10, help="runs with random plans for each mesh (default 10)")
     chosen = parser.parse_args()
+    made, soaked, rest = (batch_of, soak_batch, []) if chosen.batches else (case_of, soak_case, ["--rhs", "-"])
     if chosen.only is not None and chosen.keep:
-        _, case = case_of(chosen.seed, chosen.only)
-        kept(chosen.keep, case.texts, case.words + ["--rhs", "-"])
+        _, case = made(chosen.seed, chosen.only)
+        kept(chosen.keep, case.texts, case.words + rest)
     kinds, wrong = Counter(), 0
-    for number, case, serial, faults in in_turn(chosen, lambda number: soak_case(number, chosen)):
+    for number, case, serial, faults in in_turn(chosen, lambda number: soaked(number, chosen)):
         kinds[kind_of(serial)] += 1
         wrong += len(faults)
         for words, expected, came in faults:
             print(f"case {number}, {words}: status {came.status} in place of {expected.status}, "
                   f"differs in {', '.join(differences(expected, came)) or 'time'}")
             print(f"  repeat: bench/soak.py --program {chosen.program} --seed {chosen.seed} --only {number} "
-                  f"--keep FOLDER", flush=True)
+                  f"--keep FOLDER{' --batches' if chosen.batches else ''}", flush=True)
     told(kinds)
-    print(f"{kinds.total()} meshes, {kinds.total() * chosen.plans} runs with threads, {wrong} differ")
+    print(f"{kinds.total()} {'batches' if chosen.batches else 'meshes'}, {kinds.total() * chosen.plans} runs with threads, {wrong} differ")
     raise SystemExit(1 if wrong else 0)
 
 

@@ -7,12 +7,13 @@ use Rattle.fem_text.specs.declared.counts.Counts.{Counts}
 use Rattle.fem_text.specs.Outside.{Held}
 use Rattle.run_words.specs.declared.options.SystemMode.TheVariants as systems
 use Rattle.run_words.specs.Choice.{Mode, of_system, of_mesh, of_vector, Choice}
-use Rattle.run_words.specs.Words.{AskFor, NameOrdered}
+use Rattle.run_words.specs.Words.{AskFor, NameOrdered, NameBatch, MayWait}
 use Rattle.run_outputs.specs.Targets.{Target, World}
 use Rattle.diagnostics.specs.declared.refusal.Refusal.{Refusal}
 use Rattle.diagnostics.specs.declared.ending.Ending.{Ending}
 use Rattle.diagnostics.specs.declared.ending.Ending.TheVariants.{Refused, ReadFault, WriteFault, NoMemory}
 use Rattle.diagnostics.specs.Stages.{stops, goes}
+use Rattle.run_words.specs.BatchWords.{BatchChoice, AskForBatch, AskForNoBatch}
 use Rattle.assemble_core.specs.Modes.{plain_modes, all_modes}
 use Rattle.assemble_core.specs.Answer.{Asked, Answers}
 use Rattle.assemble_core.specs.Run.{Outside, IsRun, Leaves, ReadsWell, IsUntouched, StopsWriting}
@@ -63,12 +64,17 @@ asked_alike words never (Err refusal) refused = ((λ choice asks. absurd (never 
 not_both : (waits : Bool) → IsTrue waits → waits ≡ false → ⊥
 not_both waits is never = (let e : true ≡ false = sym is ∙ never in cc)
 
--- words that don't name the mode `ordered` don't ask for it
-pub not_asked : (words : List (List ℕ)) (waits : Bool) → ((IsTrue waits → NameOrdered words) × (NameOrdered words → IsTrue waits)) → waits ≡ false →
+-- words that name nothing that may wait don't ask for the mode `ordered`
+pub not_asked : (words : List (List ℕ)) (waits : Bool) → ((IsTrue waits → MayWait words) × (MayWait words → IsTrue waits)) → waits ≡ false →
     ((all : List (List ℕ)) (choice : Choice) → AskFor all choice → choice.mode ≡ of_system systems.Ordered → NameOrdered all) → (choice : Choice) → AskFor words choice → choice.mode ≡ of_system systems.Ordered → ⊥
-not_asked words waits names never named choice asks ordered = not_both waits (names.1 (named words choice asks ordered)) never
+not_asked words waits names never named choice asks ordered = not_both waits (names.1 (inl (named words choice asks ordered))) never
 
 -- a run that does not wait, of words that don't ask for the mode `ordered`
 pub plain_is_all : (words : List (List ℕ)) (before now : Outside) (status : ℕ) → ((choice : Choice) → AskFor words choice → choice.mode ≡ of_system systems.Ordered → ⊥) →
     IsRun plain_modes words before now status → IsRun all_modes words before now status
 plain_is_all words before now status never is = run_alike plain_modes all_modes words (asked_alike words never) before now status is
+
+-- words that name nothing that may wait ask for no batch
+pub no_batch : (words : List (List ℕ)) (waits : Bool) → ((IsTrue waits → MayWait words) × (MayWait words → IsTrue waits)) → waits ≡ false →
+    ((all : List (List ℕ)) (choice : BatchChoice) → AskForBatch all choice → NameBatch all) → AskForNoBatch words
+no_batch words waits names never named choice asks = not_both waits (names.1 (inr (named words choice asks))) never

@@ -1,3 +1,5 @@
 pub mod Modes
 pub mod Answer
 pub mod Run
+pub mod Batch
+pub mod Writing

@@ -102,4 +102,4 @@ pub record IsRun (takes : Mode → Bool) (words : List (List ℕ)) (before now :
 
 -- the statuses of runs
 abbrev pub is_status : ℕ → Bool
-is_status status = list_any (λ number. number == status) (0 ∷ 2 ∷ 3 ∷ 4 ∷ 5 ∷ 6 ∷ 7 ∷ 8 ∷ 9 ∷ 10 ∷ 11 ∷ 12 ∷ 14 ∷ 15 ∷ 17 ∷ [])
+is_status status = list_any (λ number. number == status) (0 ∷ 2 ∷ 3 ∷ 4 ∷ 5 ∷ 6 ∷ 7 ∷ 8 ∷ 9 ∷ 10 ∷ 11 ∷ 12 ∷ 14 ∷ 15 ∷ 16 ∷ 17 ∷ [])

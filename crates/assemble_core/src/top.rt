@@ -1,13 +1,17 @@
 ghost use Rattle.std.specs.Prelude.{◌≡◌, map, string_bytes};
 ghost use Rattle.assemble_core.specs.Modes.{plain_modes, all_modes};
 ghost use Rattle.assemble_core.specs.Run.{Leaves, IsRun, outside};
+ghost use Rattle.assemble_core.specs.Batch.{IsAnyRun};
 
 use crate::ask::{all_options, plain_options};
+use crate::batch::run_batch;
 use diagnostics::{Ending, Refusal};
 use fem_text::{Sink, Store};
 use run_outputs::write_targets;
 use run_targets::{all_targets, plain_targets};
-use run_words::{ordered_is_named, wants_wait};
+use run_words::{
+    batch_is_named, batches_are_within, ordered_is_named, read_batch_words, wants_wait,
+};
 use scratch_pool::Gate;
 use std::alloc::Global;
 use std::rt::Runtime;
@@ -64,9 +68,66 @@ pub fn run_plain<R: Runtime + Threads + Sync, S: Store, K: Sink, G: Gate + Sync>
     }
 }
 
-/// The program with the mode `ordered`, in which it may wait for another thread: what it leaves is said of a run that
-/// returns. All else is as [`run_plain`] has it.
+/// The program with the mode `ordered` and with batches, in which it may wait for another thread: what it leaves is said of a
+/// run that returns. Words that ask for no batch it answers as [`run_plain`] does, beside those of that mode.
+///
+/// A batch has a text with a job on each line, each the words of a run of its own. Its text is read first, and then job by
+/// job the mesh and the problem, each name once. The jobs run by workers that take one after another, and a worker passes the
+/// gate with the number of a job, counted from 0, before it runs it. What is written is for each job, in their order, the line
+/// `job K status S` and behind it what a run of its words writes, or its line: so what is wrong with one job is no fault of the
+/// batch. The status is 0 where that was written, and else that of the first fault in the order of work.
+///
+/// | Status | Where |
+/// |---|---|
+/// | 10 | a read failed: that of the batch text, or that of a text of the job that the line names |
+/// | 17 | the store tells that one of them is absent |
+/// | 9 | all texts together have more than 268,435,456 bytes, each name once; or there are more than 65,536 jobs |
+/// | 16 | a line of the batch text isn't text, or its words ask for no job |
+/// | 11 | a write or a put failed: a part of the text stands |
+/// | 12 | memory ran out: nothing is written |
+///
+/// With each status but 0 one line goes to `err`, last. With a status other than 0 and 11 nothing is written.
 pub fn run<R: Runtime + Threads + Wait + Sync, S: Store, K: Sink, G: Gate + Sync>(
+    rt: &R,
+    alloc: Global,
+    words: &[String],
+    store: &mut S,
+    out: &mut K,
+    err: &mut K,
+    gate: &G,
+) -> u8
+    ensures { IsAnyRun (map string_bytes words.now) (outside S.holds S.counts K.taken K.counts store.old out.old err.old) (outside S.holds S.counts K.taken K.counts store.new out.new err.new) result }
+{
+    batches_are_within();
+    match read_batch_words(words) {
+        Some(options) => run_batch(rt, alloc, &options, store, out, err, gate),
+        None => run_alone(rt, alloc, words, store, out, err, gate),
+    }
+}
+
+/// The program on any words: [`run`] where they name the mode `ordered` or a batch, and else [`run_plain`], which never waits.
+/// Both answer such words alike, so all that is said of [`run`] holds.
+pub fn run_chosen<R: Runtime + Threads + Wait + Sync, S: Store, K: Sink, G: Gate + Sync>(
+    rt: &R,
+    alloc: Global,
+    words: &[String],
+    store: &mut S,
+    out: &mut K,
+    err: &mut K,
+    gate: &G,
+) -> u8
+    ensures { IsAnyRun (map string_bytes words.now) (outside S.holds S.counts K.taken K.counts store.old out.old err.old) (outside S.holds S.counts K.taken K.counts store.new out.new err.new) result }
+{
+    ordered_is_named();
+    batch_is_named();
+    if wants_wait(words) {
+        return run(rt, alloc, words, store, out, err, gate);
+    }
+    run_plain(rt, alloc, words, store, out, err, gate)
+}
+
+// A run of words that ask for no batch.
+fn run_alone<R: Runtime + Threads + Wait + Sync, S: Store, K: Sink, G: Gate + Sync>(
     rt: &R,
     alloc: Global,
     words: &[String],
@@ -84,26 +145,6 @@ pub fn run<R: Runtime + Threads + Wait + Sync, S: Store, K: Sink, G: Gate + Sync
             ending.status()
         }
     }
-}
-
-/// The program on any words: [`run`] where they name the mode `ordered`, and else [`run_plain`], which never waits. Both
-/// answer such words alike, so all that is said of [`run`] holds.
-pub fn run_chosen<R: Runtime + Threads + Wait + Sync, S: Store, K: Sink, G: Gate + Sync>(
-    rt: &R,
-    alloc: Global,
-    words: &[String],
-    store: &mut S,
-    out: &mut K,
-    err: &mut K,
-    gate: &G,
-) -> u8
-    ensures { IsRun all_modes (map string_bytes words.now) (outside S.holds S.counts K.taken K.counts store.old out.old err.old) (outside S.holds S.counts K.taken K.counts store.new out.new err.new) result }
-{
-    ordered_is_named();
-    if wants_wait(words) {
-        return run(rt, alloc, words, store, out, err, gate);
-    }
-    run_plain(rt, alloc, words, store, out, err, gate)
 }
 
 // Reads, assembles and writes.

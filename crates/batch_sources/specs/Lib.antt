@@ -1,3 +1,4 @@
 pub mod Reads
 pub mod Sources
 pub mod Steps
+pub mod Lines

@@ -109,9 +109,10 @@ impl Ending {
     }
 }
 
-/// A line that ends with a word.
+/// Puts a line that ends with a word: the program's name, the front with its blank, and the word; or a prefix of the line where a
+/// put fails, which is then the last one.
 #[tactic(auto, unfolding(crate::specs::Pieces::pieces_text))]
-pub(crate) fn put_word<K: Sink>(err: &mut K, front: &'static [u8], word: &'static [u8])
+pub fn put_word<K: Sink>(err: &mut K, front: &'static [u8], word: &'static [u8])
     ensures { TookLine (K.taken err.old) (K.taken err.new) (K.counts err.old) (K.counts err.new) (lines.word_line front.now word.now) }
 {
     put_pieces(

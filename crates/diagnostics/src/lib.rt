@@ -6,9 +6,9 @@ mod kinds;
 mod line;
 mod refusal;
 
-pub use ending::{Ending, Output, Role};
+pub use ending::{Ending, Output, Role, put_word};
 pub use kinds::{
     ConstraintKind, LimitKind, LocalKind, MeshKind, MeshTextKind, ProblemTextKind, VectorFault,
     VectorTextKind,
 };
-pub use refusal::Refusal;
+pub use refusal::{Refusal, put_fault};

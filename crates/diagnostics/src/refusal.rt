@@ -102,9 +102,10 @@ fn put_named<K: Sink>(err: &mut K, front: &'static [u8], number: u32, word: &'st
     );
 }
 
-/// A line with a word and then a number.
+/// Puts a line with a word and then a number: the program's name, the front with its blank, the word, and the number in decimal;
+/// or a prefix of the line where a put fails, which is then the last one.
 #[tactic(auto, unfolding(crate::specs::Pieces::pieces_text))]
-fn put_fault<K: Sink>(err: &mut K, front: &'static [u8], word: &'static [u8], number: u32)
+pub fn put_fault<K: Sink>(err: &mut K, front: &'static [u8], word: &'static [u8], number: u32)
     ensures { TookLine (K.taken err.old) (K.taken err.new) (K.counts err.old) (K.counts err.new) (lines.fault_line front.now word.now number) }
 {
     put_pieces(

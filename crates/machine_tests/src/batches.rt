@@ -74,6 +74,21 @@ fn outputs_stand_in_the_order_of_the_tasks(rt: HostRuntime) -> Result<(), Fail> 
 }
 
 #[test]
+fn many_workers_share_many_small_tasks(rt: HostRuntime) -> Result<(), Fail> {
+    let tasks = Triples { count: 10_000 };
+    let Ok(list) = run_batch(&rt, rt.alloc(), &tasks, 64, &OpenGate) else {
+        return Err(Fail::from("memory"));
+    };
+    assert_eq!(rt; list.len(), 10_000);
+    assert!(rt;
+        list.iter()
+            .enumerate()
+            .all(|(n, output)| *output == 3 * n as u64 + 1)
+    );
+    Ok(())
+}
+
+#[test]
 fn task_one_passes_while_task_zero_is_held(rt: HostRuntime) -> Result<(), Fail> {
     let tasks = Triples { count: 50 };
     let gate = HoldGate::new(1_000_000_000);

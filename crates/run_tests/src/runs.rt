@@ -62,7 +62,7 @@ impl After {
     }
 
     // Whether the store holds this text under a name, or nothing.
-    fn holds(&self, name: &str, text: Option<&str>) -> bool {
+    pub(crate) fn holds(&self, name: &str, text: Option<&str>) -> bool {
         match (self.store.held(name), text) {
             (Some(held), Some(text)) => held == text.as_bytes(),
             (None, None) => true,

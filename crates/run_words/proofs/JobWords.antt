@@ -1,12 +1,10 @@
 -- What the words of a job ask for, by their settings.
-use Rattle.std.proofs.Common.{◌≡◌, ◌∙◌, ap, sym, ℕ, List, [], ◌∷◌, Bool, true, false, cond, refl, not, zero, suc, ◌||◌, inl, inr}
+use Rattle.std.proofs.Common.{◌≡◌, ◌∙◌, ap, sym, ℕ, List, Bool, true, false, refl, not, inl, inr}
 use Rattle.std.specs.Prelude.{Some, None, ◌&&◌, IfSome, IfNone}
 use Rattle.std.specs.declared.option.Option.{Option}
-use Rattle.std.specs.List.{list_any, slice_get}
 use Rattle.std.specs.Option.{option_map, option_and_then}
 use Rattle.std.proofs.lemmas.Option.{cond_some}
 use Rattle.run_words.specs.declared.name.Name.{Name}
-use Rattle.run_words.specs.declared.name.Name.TheVariants as names
 use Rattle.run_words.specs.declared.options.Options as rust
 use Rattle.run_words.specs.Names.{place_of, all_names}
 use Rattle.run_words.specs.Settings.{Given, given_by}
@@ -17,50 +15,12 @@ use Rattle.run_words.specs.Jobs.{is_other, is_job_mode, reads_input, AskForJob, 
 use Rattle.run_words.specs.Reading.{reading}
 use Rattle.run_words.specs.JobReading.{has_other, is_job, job_only, job_reading}
 use Rattle.run_words.proofs.Cuts.{then_some}
+use Rattle.run_words.proofs.NoOption.{stands_at, none_at, none_any, not_none}
 use Rattle.run_words.proofs.SomeWords.{cases_Option, held_or_not}
 use Rattle.run_words.proofs.Asked.{given_is, settings_are_one, ask_for_read, read_as_asked, cannot_ask}
 
--- every option is among all of them
-stands_at : (name : Name) → slice_get all_names (place_of name) ≡ Some name
-stands_at names.Mode = refl
-stands_at names.Mesh = refl
-stands_at names.Problem = refl
-stands_at names.Workers = refl
-stands_at names.Queue = refl
-stands_at names.Chunk = refl
-stands_at names.Scratch = refl
-stands_at names.Digits = refl
-stands_at names.Faces = refl
-stands_at names.Matrix = refl
-stands_at names.Rhs = refl
-stands_at names.Generate = refl
-stands_at names.Seed = refl
-stands_at names.Format = refl
-stands_at names.Subdomain = refl
-stands_at names.Ghost = refl
-stands_at names.Vector = refl
-stands_at names.Mark = refl
-
-neither : (a b : Bool) → a || b ≡ false → (a ≡ false) × (b ≡ false)
-neither true b h = cc
-neither false b h = (refl, h)
-
-module _ {X : Type 0} (p : X → Bool) where
-  none_at : (xs : List X) (i : ℕ) (x : X) → list_any p xs ≡ false → slice_get xs i ≡ Some x → p x ≡ false
-  none_at [] i x none at = cc
-  none_at (y ∷ ys) zero x none at = let same : y ≡ x = cc in ap p (sym same) ∙ (neither (p y) (list_any p ys) none).0
-  none_at (y ∷ ys) (suc i) x none at = none_at ys i x (neither (p y) (list_any p ys) none).1 at
-
-  none_any : (xs : List X) → ((x : X) → p x ≡ false) → list_any p xs ≡ false
-  none_any [] none = refl
-  none_any (y ∷ ys) none = ap (λ b. b || list_any p ys) (none y) ∙ none_any ys none
-
 none_other : (given : Given) (name : Name) → has_other given ≡ false → is_other given name ≡ false
 none_other given name none = none_at (is_other given) all_names (place_of name) name none (stands_at name)
-
-not_none : {X : Type 0} (b : Bool) (o : Option X) (x : X) → cond b None o ≡ Some x → (b ≡ false) × (o ≡ Some x)
-not_none true o x h = cc
-not_none false o x h = (refl, h)
 
 both : (a b : Bool) → a && not b ≡ true → (a ≡ true) × (b ≡ false)
 both true true h = cc

@@ -10,3 +10,6 @@ pub mod Rules
 pub mod SomeWords
 pub mod Taking
 pub mod Within
+pub mod NoOption
+pub mod BatchOf
+pub mod Waits

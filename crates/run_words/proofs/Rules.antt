@@ -22,8 +22,9 @@ use Rattle.run_words.specs.Settings.{Given}
 use Rattle.run_words.specs.Values.{is_name, is_number_within, mode_of, format_of, faces_of, is_in_set}
 use Rattle.run_words.specs.Choice.{Mode, mode_name_in, Source, texts, generated, Destination, standard, named, Output, summary, both, destination_of, Choice, number_or, plan_of, source_of, output_of, subdomain_of, mode_in, format_in, chosen}
 use Rattle.run_words.specs.Words.{passes, AreInSets, is_standard, are_same, has_sums, is_msh, SourceRules, OutputRules, SubdomainRule, KeepsRules}
-use Rattle.run_words.specs.Reading.{number_within, name_of, read_or, read_plan, two_texts, read_source, read_mode, read_subdomain, read_destination, is_same_name, two_outputs, read_output, reading, ◌>>=◌}
+use Rattle.run_words.specs.Reading.{number_within, name_of, read_or, read_plan, two_texts, read_source, read_mode, read_subdomain, read_destination, is_same_name, two_outputs, read_output, run_reading, reading, ◌>>=◌}
 use Rattle.run_words.proofs.Cuts.{then_some}
+use Rattle.run_words.proofs.NoOption.{not_none}
 use Rattle.run_words.proofs.Numbers.{injected, number_read, number_given, named_read, named_given, cond_then}
 use Rattle.run_words.proofs.Modes.{ModeInSets, mode_read, mode_given}
 
@@ -146,7 +147,7 @@ pub record OutputRead (matrix rhs : Option (List ℕ)) (wanted sums : Bool) (out
   pub rules : OutputRules matrix rhs wanted sums
   pub output_is : output ≡ output_of matrix rhs wanted
 
-abbrev destination_or_standard : Option (List ℕ) → Destination
+abbrev pub destination_or_standard : Option (List ℕ) → Destination
 destination_or_standard value = unwrap_or (option_map destination_of value) standard
 
 destination_read : (word : List ℕ) (destination : Destination) → read_destination word ≡ Some destination → (is_name word ≡ true) × (destination ≡ destination_of word)
@@ -157,12 +158,12 @@ destination_read word destination read =
 destination_given : (word : List ℕ) → is_name word ≡ true → read_destination word ≡ Some (destination_of word)
 destination_given word is = rw is refl
 
-matrix_read : (matrix : Option (List ℕ)) (destination : Destination) → read_or standard read_destination matrix ≡ Some destination →
+pub matrix_read : (matrix : Option (List ℕ)) (destination : Destination) → read_or standard read_destination matrix ≡ Some destination →
     (passes is_name matrix ≡ true) × (destination ≡ destination_or_standard matrix)
 matrix_read None destination read = (refl, (cc))
 matrix_read (Some word) destination read = destination_read word destination read
 
-matrix_given : (matrix : Option (List ℕ)) → passes is_name matrix ≡ true → read_or standard read_destination matrix ≡ Some (destination_or_standard matrix)
+pub matrix_given : (matrix : Option (List ℕ)) → passes is_name matrix ≡ true → read_or standard read_destination matrix ≡ Some (destination_or_standard matrix)
 matrix_given None in_set = refl
 matrix_given (Some word) in_set = destination_given word in_set
 
@@ -275,9 +276,9 @@ pub record IsChosen (given : Given) (choice : Choice) : Type 0 where
   pub rules : KeepsRules given
   pub choice_is : choice ≡ chosen given
 
-pub reading_given : (given : Given) → AreInSets given → KeepsRules given → reading given ≡ Some (chosen given)
-unfolding reading is_in_set
-reading_given given in_sets rules =
+run_reading_given : (given : Given) → AreInSets given → KeepsRules given → run_reading given ≡ Some (chosen given)
+unfolding run_reading is_in_set
+run_reading_given given in_sets rules =
     let mode = named_given mode_of (modes.System systems.Serial) (given.value names.Mode) (in_sets names.Mode) in
     let format = named_given format_of formats.Ucd (given.value names.Format) (in_sets names.Format) in
     let source = source_given (given.value names.Mesh) (given.value names.Problem) (given.value names.Generate) (given.value names.Seed) (format_in given)
@@ -293,10 +294,15 @@ reading_given given in_sets rules =
     (record { matrix_in = in_sets names.Matrix; rhs_in = in_sets names.Rhs }) rules.output in
     rw (mode, format, source, task, plan, digits, faces, subdomain, output) refl
 
+pub reading_given : (given : Given) → AreInSets given → KeepsRules given → reading given ≡ Some (chosen given)
+unfolding reading
+reading_given given in_sets rules = ap (λ b. cond b None (run_reading given)) rules.no_batch ∙ run_reading_given given in_sets rules
+
 abbrev put_together : Mode → Source → Plan → ℕ → Faces → Option Subdomain → Output → Choice
 put_together mode source plan digits faces subdomain output = record { mode = mode; source = source; plan = plan; digits = digits; faces = faces; subdomain = subdomain; output = output }
 
 pub record PartsInSets (given : Given) : Type 0 where
+  pub no_batch : is_some (given.value names.Batch) ≡ false
   pub mode_in : passes (λ word. is_some (mode_of word)) (given.value names.Mode) ≡ true
   pub format_in : passes (λ word. is_some (format_of word)) (given.value names.Format) ≡ true
   pub source_in : SourceInSets (given.value names.Mesh) (given.value names.Problem) (given.value names.Generate) (given.value names.Seed)
@@ -306,6 +312,10 @@ pub record PartsInSets (given : Given) : Type 0 where
   pub subdomain_in : SubdomainInSets (given.value names.Subdomain) (given.value names.Ghost)
   pub output_in : OutputInSets (given.value names.Matrix) (given.value names.Rhs)
   pub vector_in : ModeInSets (given.value names.Vector) (given.value names.Mark)
+
+absent : (test : List ℕ → Bool) (value : Option (List ℕ)) → is_some value ≡ false → passes test value ≡ true
+absent test None none = refl
+absent test (Some value) none = cc
 
 in_all_sets : (given : Given) → PartsInSets given → AreInSets given
 unfolding is_in_set
@@ -327,6 +337,7 @@ in_all_sets given parts names.Subdomain = parts.subdomain_in.subdomain_in
 in_all_sets given parts names.Ghost = parts.subdomain_in.parts_in
 in_all_sets given parts names.Vector = parts.vector_in.vector_in
 in_all_sets given parts names.Mark = parts.vector_in.mark_in
+in_all_sets given parts names.Batch = absent is_name (given.value names.Batch) parts.no_batch
 
 chosen_from : (given : Given) (choice : Choice) (m : ModeName) (t : Format) (s : Source) (v : Mode) (p : Plan) (d : ℕ) (f : Faces) (u : Option Subdomain) (o : Output) →
     read_or (modes.System systems.Serial) mode_of (given.value names.Mode) ≡ Some m →
@@ -338,8 +349,8 @@ chosen_from : (given : Given) (choice : Choice) (m : ModeName) (t : Format) (s :
     read_or faces.None faces_of (given.value names.Faces) ≡ Some f →
     read_subdomain (given.value names.Subdomain) (given.value names.Ghost) (given.stands switches.GhostCells) ≡ Some u →
     read_output (given.value names.Matrix) (given.value names.Rhs) (given.stands switches.Summary) (has_sums m) ≡ Some o →
-    put_together v s p d f u o ≡ choice → IsChosen given choice
-chosen_from given choice m t s v p d f u o m_read t_read s_read v_read p_read d_read f_read u_read o_read is =
+    put_together v s p d f u o ≡ choice → is_some (given.value names.Batch) ≡ false → IsChosen given choice
+chosen_from given choice m t s v p d f u o m_read t_read s_read v_read p_read d_read f_read u_read o_read is no_batch =
     let mode = named_read mode_of (modes.System systems.Serial) m (given.value names.Mode) m_read in
     let format = named_read format_of formats.Ucd t (given.value names.Format) t_read in
     let read_in : Format → Type 0 = λ f. SourceRead (given.value names.Mesh) (given.value names.Problem) (given.value names.Generate) (given.value names.Seed) f s in
@@ -354,8 +365,9 @@ chosen_from given choice m t s v p d f u o m_read t_read s_read v_read p_read d_
     let run = subdomain_read (given.value names.Subdomain) (given.value names.Ghost) (given.stands switches.GhostCells) u u_read in
     let output = output_read (given.value names.Matrix) (given.value names.Rhs) (given.stands switches.Summary) (has_sums m) o o_read in
     record {
-      in_sets = in_all_sets given (record { mode_in = mode.0; format_in = format.0; source_in = source.in_sets; plan_in = plan.0; digits_in = digits.0; faces_in = sides.0; subdomain_in = run.in_sets; output_in = output.in_sets; vector_in = task.in_sets });
+      in_sets = in_all_sets given (record { no_batch = no_batch; mode_in = mode.0; format_in = format.0; source_in = source.in_sets; plan_in = plan.0; digits_in = digits.0; faces_in = sides.0; subdomain_in = run.in_sets; output_in = output.in_sets; vector_in = task.in_sets });
       rules = record {
+        no_batch = no_batch;
         source = source.rules;
         output = subst (λ m. OutputRules (given.value names.Matrix) (given.value names.Rhs) (given.stands switches.Summary) (has_sums m)) mode.1 output.rules;
         subdomain = run.rule;
@@ -369,9 +381,9 @@ chosen_from given choice m t s v p d f u o m_read t_read s_read v_read p_read d_
           ∙ ap (λ o. put_together (mode_in given) (chosen given).source (plan_of given) (chosen given).digits (chosen given).faces (chosen given).subdomain o) output.output_is;
     }
 
-pub reading_tells : (given : Given) (choice : Choice) → reading given ≡ Some choice → IsChosen given choice
-unfolding reading
-reading_tells given choice read =
+run_reading_tells : (given : Given) (choice : Choice) → run_reading given ≡ Some choice → is_some (given.value names.Batch) ≡ false → IsChosen given choice
+unfolding run_reading
+run_reading_tells given choice read no_batch =
     let behind_subdomain : ModeName → Mode → Source → Plan → ℕ → Faces → Option Subdomain → Option Choice = λ m v s p d f u.
     read_output (given.value names.Matrix) (given.value names.Rhs) (given.stands switches.Summary) (has_sums m) >>= (λ o. Some (put_together v s p d f u o)) in
     let behind_faces : ModeName → Mode → Source → Plan → ℕ → Faces → Option Choice = λ m v s p d f.
@@ -392,4 +404,10 @@ reading_tells given choice read =
     let f = then_some (behind_faces m.0 v.0 s.0 p.0 d.0) (read_or faces.None faces_of (given.value names.Faces)) choice d.2 in
     let u = then_some (behind_subdomain m.0 v.0 s.0 p.0 d.0 f.0) (read_subdomain (given.value names.Subdomain) (given.value names.Ghost) (given.stands switches.GhostCells)) choice f.2 in
     let o = then_some (λ o. Some (put_together v.0 s.0 p.0 d.0 f.0 u.0 o)) (read_output (given.value names.Matrix) (given.value names.Rhs) (given.stands switches.Summary) (has_sums m.0)) choice u.2 in
-    chosen_from given choice m.0 t.0 s.0 v.0 p.0 d.0 f.0 u.0 o.0 m.1 t.1 s.1 v.1 p.1 d.1 f.1 u.1 o.1 (injected (put_together v.0 s.0 p.0 d.0 f.0 u.0 o.0) choice o.2)
+    chosen_from given choice m.0 t.0 s.0 v.0 p.0 d.0 f.0 u.0 o.0 m.1 t.1 s.1 v.1 p.1 d.1 f.1 u.1 o.1 (injected (put_together v.0 s.0 p.0 d.0 f.0 u.0 o.0) choice o.2) no_batch
+
+pub reading_tells : (given : Given) (choice : Choice) → reading given ≡ Some choice → IsChosen given choice
+unfolding reading
+reading_tells given choice read =
+    let is = not_none (is_some (given.value names.Batch)) (run_reading given) choice read in
+    run_reading_tells given choice is.1 is.0

@@ -15,7 +15,7 @@ use Rattle.run_words.specs.Ranges.{IsOfSize, IsPlan, IsWithinRanges}
 number_within : (least greatest : ℕ) (word : List ℕ) → is_number_within least greatest word ≡ true → (least ≤ digits_value word) × (digits_value word ≤ greatest)
 number_within least greatest word is = grind (arith, common_steps)
 
-value_within : (default least greatest : ℕ) (value : Option (List ℕ)) → least ≤ default → default ≤ greatest → passes (is_number_within least greatest) value ≡ true →
+pub value_within : (default least greatest : ℕ) (value : Option (List ℕ)) → least ≤ default → default ≤ greatest → passes (is_number_within least greatest) value ≡ true →
     (least ≤ number_or default value) × (number_or default value ≤ greatest)
 value_within default least greatest None low high is = (low, high)
 value_within default least greatest (Some word) low high is = number_within least greatest word is

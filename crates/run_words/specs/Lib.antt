@@ -9,5 +9,7 @@ pub mod Words
 pub mod Reading
 pub mod Jobs
 pub mod JobReading
-pub mod Ordered
+pub mod Waits
 pub mod Ranges
+pub mod BatchWords
+pub mod BatchReading

@@ -1,5 +1,5 @@
 -- How values are read, one option after another.
-use Rattle.std.specs.Prelude.{ℕ, ◌*◌, List, Bool, true, false, ◌&&◌, ◌||◌, not, codes, if◌then◌else◌, Some, None}
+use Rattle.std.specs.Prelude.{ℕ, ◌*◌, List, Bool, true, false, ◌&&◌, ◌||◌, not, is_some, codes, if◌then◌else◌, Some, None}
 use Rattle.std.specs.declared.option.Option.{Option}
 use Rattle.std.specs.Option.{option_map, option_and_then}
 use Rattle.std.specs.Str.{bytes_eq}
@@ -99,8 +99,9 @@ read_subdomain (Some word) parts cells =
     id_of word >>= (λ id. read_or faces.None faces_of parts >>= (λ sides. Some (Some (record { id = id; ghost_parts = sides; ghost_cells = cells }))))
 read_subdomain _ _ _ = None
 
-unfoldable pub reading : Given → Option Choice
-reading given = do
+-- what is asked of a run that is no batch
+unfoldable pub run_reading : Given → Option Choice
+run_reading given = do
   name ← read_or (modes.System systems.Serial) mode_of (given.value names.Mode)
   format ← read_or formats.Ucd format_of (given.value names.Format)
   source ← read_source (given.value names.Mesh) (given.value names.Problem) (given.value names.Generate) (given.value names.Seed) format
@@ -111,3 +112,7 @@ reading given = do
   subdomain ← read_subdomain (given.value names.Subdomain) (given.value names.Ghost) (given.stands switches.GhostCells)
   output ← read_output (given.value names.Matrix) (given.value names.Rhs) (given.stands switches.Summary) (has_sums name)
   Some (record { mode = mode; source = source; plan = plan; digits = digits; faces = faces; subdomain = subdomain; output = output })
+
+-- no run is asked for beside a batch
+unfoldable pub reading : Given → Option Choice
+reading given = if is_some (given.value names.Batch) then None else run_reading given

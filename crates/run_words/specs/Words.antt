@@ -97,6 +97,8 @@ pub record VectorRules (name : ModeName) (vector mark mesh problem generate : Op
   pub one_input : (is_standard vector && (is_standard mesh || is_standard problem)) ≡ false
 
 pub record KeepsRules (given : Given) : Type 0 where
+  -- the words of a batch ask for no other run
+  pub no_batch : is_some (given.value names.Batch) ≡ false
   pub source : SourceRules (given.value names.Mesh) (given.value names.Problem) (given.value names.Generate) (given.value names.Seed) (format_in given)
   pub output : OutputRules (given.value names.Matrix) (given.value names.Rhs) (given.stands switches.Summary) (has_sums (mode_name_in given))
   pub subdomain : SubdomainRule (given.value names.Subdomain) (given.value names.Ghost) (given.stands switches.GhostCells)
@@ -129,3 +131,11 @@ pub record StandInARow (row words : List (List ℕ)) : Type 0 where
 -- the words name the mode `ordered`, in two words in a row or in one
 abbrev pub NameOrdered : List (List ℕ) → Type 0
 NameOrdered words = StandInARow (codes "--mode" ∷ codes "ordered" ∷ []) words ⊎ StandInARow (codes "--mode=ordered" ∷ []) words
+
+-- the words name the option of a batch, by itself or with its value
+abbrev pub NameBatch : List (List ℕ) → Type 0
+NameBatch words = StandInARow (codes "--batch" ∷ []) words ⊎ ((value : List ℕ) × StandInARow ((codes "--batch=" ++ value) ∷ []) words)
+
+-- the words name what may wait: the mode `ordered` or a batch
+abbrev pub MayWait : List (List ℕ) → Type 0
+MayWait words = NameOrdered words ⊎ NameBatch words

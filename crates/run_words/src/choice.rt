@@ -3,7 +3,7 @@ ghost use Rattle.std.specs.Option.{option_map, option_copied};
 ghost use Rattle.run_words.specs.Held.{seen_settings};
 ghost use Rattle.run_words.specs.Values.{mode_of, format_of, faces_of};
 ghost use Rattle.run_words.specs.Choice.{standard, seen, seen_mode, seen_source, seen_destination, seen_output, destination_of};
-ghost use Rattle.run_words.specs.Reading.{reading, read_or, read_mode, read_vector, read_plan, read_source, read_subdomain, read_destination, read_output, is_apart, two_texts, two_outputs, is_same_name};
+ghost use Rattle.run_words.specs.Reading.{reading, run_reading, read_or, read_mode, read_vector, read_plan, read_source, read_subdomain, read_destination, read_output, is_apart, two_texts, two_outputs, is_same_name};
 
 use crate::mode::{ModeName, has_sums, mode_of};
 use crate::name::Name;
@@ -16,10 +16,21 @@ use crate::{
 };
 use fem_fixed::read_id;
 
-/// What the options that stand ask for, where each value is in its set and the rules between options are kept.
+/// What the options that stand ask for, where each value is in its set and the rules between options are kept. A batch
+/// is no such choice.
 #[tactic(auto, unfolding(crate::specs::Reading::reading))]
 pub(crate) fn options_of<'a>(settings: &Settings<'a>) -> Option<Options<'a>>
     ensures { option_map seen result ≡ reading (seen_settings settings.now) }
+{
+    if settings.value(Name::Batch).is_some() {
+        return None;
+    }
+    run_options_of(settings)
+}
+
+#[tactic(auto, unfolding(crate::specs::Reading::run_reading))]
+fn run_options_of<'a>(settings: &Settings<'a>) -> Option<Options<'a>>
+    ensures { option_map seen result ≡ run_reading (seen_settings settings.now) }
 {
     let name = mode_or_serial(settings.value(Name::Mode))?;
     let format = format_or_ucd(settings.value(Name::Format))?;
@@ -284,7 +295,7 @@ fn is_same_name(matrix: Destination, rhs: Destination) -> bool
     }
 }
 
-fn destination_or_standard(value: Option<&str>) -> Option<Destination<'_>>
+pub(crate) fn destination_or_standard(value: Option<&str>) -> Option<Destination<'_>>
     ensures { option_map seen_destination result ≡ read_or standard read_destination (option_copied value.entry) }
 {
     match value {

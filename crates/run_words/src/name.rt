@@ -23,10 +23,11 @@ pub(crate) enum Name {
     Ghost,
     Vector,
     Mark,
+    Batch,
 }
 
 impl Name {
-    pub(crate) const COUNT: usize = 18;
+    pub(crate) const COUNT: usize = 19;
 
     #[tactic(auto, unfolding(crate::specs::Names::spelled))]
     fn spelled(self) -> &'static str
@@ -51,6 +52,7 @@ impl Name {
             Name::Ghost => "--ghost",
             Name::Vector => "--vector",
             Name::Mark => "--mark",
+            Name::Batch => "--batch",
         }
     }
 
@@ -62,7 +64,7 @@ impl Name {
     }
 }
 
-pub(crate) const NAMES: [Name; 18] = [
+pub(crate) const NAMES: [Name; 19] = [
     Name::Mode,
     Name::Mesh,
     Name::Problem,
@@ -81,6 +83,7 @@ pub(crate) const NAMES: [Name; 18] = [
     Name::Ghost,
     Name::Vector,
     Name::Mark,
+    Name::Batch,
 ];
 
 /// The option that a word spells.

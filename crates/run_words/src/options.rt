@@ -123,3 +123,12 @@ pub struct Options<'a> {
     pub subdomain: Option<Subdomain>,
     pub output: Output<'a>,
 }
+
+/// What the words of a batch ask for: the name of its text, how many workers run its jobs, and where its text goes. `-` is
+/// standard input.
+#[derive(Clone, Copy, Debug, PartialEq, Eq)]
+pub struct BatchOptions<'a> {
+    pub name: &'a str,
+    pub workers: u32,
+    pub destination: Destination<'a>,
+}

@@ -30,7 +30,7 @@ impl Switch {
     }
 }
 
-const SWITCHES: [Switch; 2] = [Switch::Summary, Switch::GhostCells];
+pub(crate) const SWITCHES: [Switch; 2] = [Switch::Summary, Switch::GhostCells];
 
 /// The option that a word spells.
 #[tactic(auto, unfolding(crate::specs::Openings::find_switch))]

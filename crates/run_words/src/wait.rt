@@ -1,17 +1,19 @@
 ghost use Rattle.std.specs.Prelude.{◌≡◌, ◌↔◌, ℕ, List, map, string_bytes, IsTrue, codes};
 ghost use Rattle.run_words.specs.Choice.{Choice, of_system};
-ghost use Rattle.run_words.specs.Words.{AskFor, NameOrdered};
-ghost use Rattle.run_words.specs.Ordered.{begins_with, names_at};
+ghost use Rattle.run_words.specs.Words.{AskFor, NameOrdered, NameBatch, MayWait};
+ghost use Rattle.run_words.specs.BatchWords.{BatchChoice, AskForBatch};
+ghost use Rattle.run_words.specs.Waits.{begins_with, names_ordered, names_batch, waits_at};
 
 use crate::SystemMode;
 
-/// Whether two words in a row are `--mode` and `ordered`, or a word is `--mode=ordered`: whether a run may wait.
+/// Whether two words in a row are `--mode` and `ordered`, or a word is `--mode=ordered`, or a word is `--batch` or begins
+/// with `--batch=`: whether a run may wait.
 pub fn wants_wait(words: &[String]) -> bool
-    ensures { IsTrue result ↔ NameOrdered (map string_bytes words.now) }
+    ensures { IsTrue result ↔ MayWait (map string_bytes words.now) }
 {
     let mut left = words;
     while let [word, behind @ ..] = left {
-        if names_at(word.as_str(), behind) {
+        if waits_at(word.as_str(), behind) {
             return true;
         }
         left = behind;
@@ -25,9 +27,20 @@ pub fn ordered_is_named()
     ensures { (words : List (List ℕ)) (choice : Choice) → AskFor words choice → choice.mode ≡ of_system SystemMode.Ordered → NameOrdered words }
 {}
 
-#[tactic(auto, unfolding(crate::specs::Ordered::names_at))]
-fn names_at(word: &str, behind: &[String]) -> bool
-    ensures { result ≡ names_at word.now (map string_bytes behind.now) }
+/// Words that ask for a batch name its option: [`crate::read_batch_words`] has an answer only where [`wants_wait`] is true.
+pub fn batch_is_named()
+    ensures { (words : List (List ℕ)) (choice : BatchChoice) → AskForBatch words choice → NameBatch words }
+{}
+
+fn waits_at(word: &str, behind: &[String]) -> bool
+    ensures { result ≡ waits_at word.now (map string_bytes behind.now) }
+{
+    names_ordered(word, behind) || names_batch(word)
+}
+
+#[tactic(auto, unfolding(crate::specs::Waits::names_ordered))]
+fn names_ordered(word: &str, behind: &[String]) -> bool
+    ensures { result ≡ names_ordered word.now (map string_bytes behind.now) }
 {
     if word == "--mode=ordered" {
         return true;
@@ -42,4 +55,11 @@ fn begins_with_ordered(words: &[String]) -> bool
         [first, ..] => first.as_str() == "ordered",
         [] => false,
     }
+}
+
+#[tactic(auto, unfolding(crate::specs::Waits::names_batch))]
+fn names_batch(word: &str) -> bool
+    ensures { result ≡ names_batch word.now }
+{
+    word == "--batch" || word.starts_with("--batch=")
 }

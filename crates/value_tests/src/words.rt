@@ -55,7 +55,7 @@ fn waits(alloc: Global, line: &str) -> Option<bool> {
 }
 
 #[test]
-fn a_run_waits_where_the_mode_is_ordered(rt: HostRuntime) {
+fn a_run_waits_where_the_mode_is_ordered_or_there_is_a_batch(rt: HostRuntime) {
     for (line, answer) in [
         ("--mesh a --mode ordered", true),
         ("--mode=ordered --mesh a", true),
@@ -63,6 +63,9 @@ fn a_run_waits_where_the_mode_is_ordered(rt: HostRuntime) {
         ("ordered --mode", false),
         ("--mode=serial ordered", false),
         ("--mesh ordered", false),
+        ("--workers 2 --batch jobs", true),
+        ("--batch=", true),
+        ("--batches jobs", false),
     ] {
         assert_eq!(rt; waits(rt.alloc(), line), Some(answer), "{line}");
     }
