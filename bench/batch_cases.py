@@ -27,6 +27,8 @@ def random_job(rng, count):
         chosen.append(("--digits", rng.choice(["0", "1", "5", "24", "53"])))
     if rng.random() < 0.5:
         chosen.append(("--faces", rng.choice(["none", "once", "both"])))
+    if rng.random() < 0.3:
+        chosen.append(("--degree", rng.choice(["1", "2"])))
     if mode == "serial" and rng.random() < 0.3:
         chosen.append(("--summary", None))
     rng.shuffle(chosen)

@@ -75,7 +75,7 @@ def value_of(words, option):
 def size_of(case, chosen):
     """How many degrees of freedom the system of a case has, as the peer says it; 6 where there is none."""
     words = ["--mode", "pattern"]
-    for option in ("--mesh", "--format", "--problem"):
+    for option in ("--mesh", "--format", "--problem", "--degree"):
         value = value_of(case.words, option)
         words += [option, value] if value is not None else []
     given = case.given if "-" in words and case.given in case.texts else None

@@ -30,7 +30,8 @@ SMALL = [1, 1, 2, 3, 4, 8]
 def case_of(seed, number):
     """A mesh, a problem and the words that all runs of the case share."""
     rng = random.Random(f"soak {seed}/{number}")
-    shared = ["--faces", rng.choice(["none", "once", "both"]), "--digits", rng.choice(["0", "0", "0", "5", "24", "64"])]
+    shared = ["--faces", rng.choice(["none", "once", "both"]), "--digits", rng.choice(["0", "0", "0", "5", "24", "64"]),
+              "--degree", rng.choice(["1", "2"])]
     if rng.random() < 0.2:
         return rng, Case(shared + ["--generate", str(rng.randint(1, 12)), "--seed", str(number)], {}, None)
     mesh = random_mesh(rng)

@@ -16,6 +16,8 @@ def some_settings(rng, vectors):
         chosen.append(("--digits", rng.choice(["0", "1", "5", "24", "53", "64", "00024"])))
     if rng.random() < 0.5:
         chosen.append(("--faces", rng.choice(["none", "once", "both"])))
+    if rng.random() < 0.35:
+        chosen.append(("--degree", "1" if mode in ("marks", "adapt") else rng.choice(["1", "2", "2", "2", "02"])))
     if mode in VECTOR_MODES:
         chosen.append(("--vector", rng.choice(["vector.mtx"] * 20 + ["absent.mtx"])))
     if mode in ("marks", "adapt") and rng.random() < 0.7:
@@ -85,7 +87,8 @@ EXTRA = [["--fast"], ["--help"], ["--version"], ["--"], ["-"], ["x"], [""], ["--
          ["--subdomain=1"], ["--subdomain=4294967296"], ["--subdomain=00000000001"], ["--subdomain", "-1"], ["--subdomain="],
          ["--ghost=once"], ["--ghost=all"], ["--ghost=none"], ["--ghost-cells"], ["--ghost-cells", "x"], ["--ghost-cells="],
          ["--mode=mesh"], ["--mode=product"], ["--mode=marks"], ["--mode=adapt"], ["--vector=vector.mtx"], ["--vector=-"],
-         ["--mark=1"], ["--mark=0"], ["--mark=1048577"], ["--problem=-"], ["--mesh=-"], ["--workers=00000000000000000004"]]
+         ["--mark=1"], ["--mark=0"], ["--mark=1048577"], ["--degree=2"], ["--degree=1"], ["--degree=0"], ["--degree", "3"],
+         ["--problem=-"], ["--mesh=-"], ["--workers=00000000000000000004"]]
 
 
 def spelled_words(rng, settings):

@@ -109,9 +109,15 @@ class Mesh:
         """The materials and corners of the active cells in their order."""
         return [self.cells[key] for key in sorted(self.cells)]
 
-    def dofs(self):
-        """The corners in the order of their numbers: each at its first occurrence."""
-        return list(dict.fromkeys(name for _, corners in self.active() for name in corners))
+    def dofs(self, degree=1):
+        """The degrees of freedom by name in the order of their numbers, each at its first occurrence: the corners of each cell, and
+        with degree 2 the middles of its faces and its centre."""
+        return list(dict.fromkeys(name for key in sorted(self.cells) for name in self.names(key, degree)))
+
+    def names(self, key, degree):
+        """The names that a cell gives."""
+        corners = self.cells[key][1]
+        return corners + [frozenset((corners[a], corners[b])) for a, b in FACES] + [key] if degree == 2 else corners
 
     def hanging(self):
         """The corners that are the middle of an active cell's face."""

@@ -28,7 +28,7 @@ use Rattle.diagnostics.specs.Stages.{Then, stops, goes}
 use Rattle.run_texts.specs.Read.{SourceRead, VectorUnder}
 use Rattle.system_laws.specs.Laws.{HasOneSystem, HasOneForest, HasOneFinerForest, HasOneSystemOn}
 use Rattle.assemble_core.specs.Answer.{Asked}
-use Rattle.run_targets.specs.Defines.{flags_of, Assembled, FinerMesh, AssembledOn, VectorMade, Made, Defines}
+use Rattle.run_targets.specs.Defines.{scheme_of, Assembled, FinerMesh, AssembledOn, VectorMade, Made, Defines}
 use Rattle.answer_laws.specs.Parts.{IsKnown, AllAreKnown, HaveOneReading, HaveOneVector, HaveOneListOfTexts, HaveOneAnswerWhereKnown}
 use Rattle.answer_laws.proofs.Steps.{Agree, one_after}
 
@@ -54,11 +54,11 @@ module _ (one_choice : (words : List (List ℕ)) (first second : Choice) → Ask
 
   -- two set-ups agree, so their texts are the same
   one_assembled : (mode : SystemMode) (choice : Choice) (read : Mesh × ProblemParts) → Agree (Assembled mode choice read) (Assembled mode choice read)
-  one_assembled mode choice read a b (stops r w e) (stops q v f) = e ∙ ap Err (one_system (flags_of choice) read.0 read.1 (Err r) (Err q) w v) ∙ sym f
-  one_assembled mode choice read a b (stops r w e) (goes t v k) = absurd (one_system (flags_of choice) read.0 read.1 (Err r) (Ok t) w v)
-  one_assembled mode choice read a b (goes s w h) (stops q v f) = absurd (one_system (flags_of choice) read.0 read.1 (Ok s) (Err q) w v)
+  one_assembled mode choice read a b (stops r w e) (stops q v f) = e ∙ ap Err (one_system (scheme_of choice) read.0 read.1 (Err r) (Err q) w v) ∙ sym f
+  one_assembled mode choice read a b (stops r w e) (goes t v k) = absurd (one_system (scheme_of choice) read.0 read.1 (Err r) (Ok t) w v)
+  one_assembled mode choice read a b (goes s w h) (stops q v f) = absurd (one_system (scheme_of choice) read.0 read.1 (Ok s) (Err q) w v)
   one_assembled mode choice read a b (goes s w h) (goes t v k) =
-      one_list mode choice s t (one_system (flags_of choice) read.0 read.1 (Ok s) (Ok t) w v) a b h k
+      one_list mode choice s t (one_system (scheme_of choice) read.0 read.1 (Ok s) (Ok t) w v) a b h k
 
   -- two refined meshes agree, so what is made of a vector on them is the same
   one_on_forest : {Y : Type 0} (first other : Result RefinedMesh Refusal → Type 0) (next : RefinedMesh → Result Y Refusal → Type 0) →
@@ -78,8 +78,8 @@ module _ (one_choice : (words : List (List ℕ)) (first second : Choice) → Ask
 
   one_assembled_on : (choice : Choice) (read : Mesh × ProblemParts) (f g : RefinedMesh) → IsSameForest f g → Agree (AssembledOn choice read.0.ids read.1 f) (AssembledOn choice read.0.ids read.1 g)
   one_assembled_on choice read f g same =
-      one_on_system (SetUpOn (flags_of choice) read.0.ids read.1 f) (SetUpOn (flags_of choice) read.0.ids read.1 g) (SystemTexts systems.Serial choice)
-      (one_system_on f g same (flags_of choice) read.0.ids read.1) (one_list systems.Serial choice)
+      one_on_system (SetUpOn (scheme_of choice) read.0.ids read.1 f) (SetUpOn (scheme_of choice) read.0.ids read.1 g) (SystemTexts systems.Serial choice)
+      (one_system_on f g same (scheme_of choice) read.0.ids read.1) (one_list systems.Serial choice)
 
   -- one more step on meshes that are the same
   agree_finer : (count : ℕ) (values : List ℤ) (f g : RefinedMesh) → IsSameForest f g → (x y : Result RefinedMesh Refusal) → FinerMesh count values f x → FinerMesh count values g y → AgreeOnForests x y
@@ -94,8 +94,8 @@ module _ (one_choice : (words : List (List ℕ)) (first second : Choice) → Ask
 
   one_vector_made : (task : VectorTask) (choice : Choice) (read : Mesh × ProblemParts) (values : List ℤ) → Agree (VectorMade task choice read values) (VectorMade task choice read values)
   one_vector_made tasks.Product choice read values =
-      one_on_system (IsSetUp (flags_of choice) read.0 read.1) (IsSetUp (flags_of choice) read.0 read.1) (ProductTexts choice.output values)
-      (one_system (flags_of choice) read.0 read.1) (one_product choice.output values)
+      one_on_system (IsSetUp (scheme_of choice) read.0 read.1) (IsSetUp (scheme_of choice) read.0 read.1) (ProductTexts choice.output values)
+      (one_system (scheme_of choice) read.0 read.1) (one_product choice.output values)
   one_vector_made (tasks.Marks count) choice read values =
       one_on_forest (ForestOf read.0 read.1) (ForestOf read.0 read.1) (MarksTexts choice.output count values) (one_forest read.0 read.1)
       (λ f g same. one_after (MarkedOn count values f) (MarkedOn count values g) (MarksText choice.output) (MarksText choice.output) (one_marking count values f g same) (λ marks is a b h k. h ∙ sym k))

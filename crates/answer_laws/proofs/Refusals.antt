@@ -31,7 +31,6 @@ use Rattle.serial_sum.specs.declared.sum.AssembleFault.{AssembleFault}
 use Rattle.serial_sum.specs.declared.sum.AssembleFault.TheVariants as sums
 use Rattle.affine_constraints.specs.Lines.{AffineLine}
 use Rattle.sparsity.specs.declared.rows.Row.{Row}
-use Rattle.mesh_visits.specs.declared.flags.Flags.{Flags}
 use Rattle.mesh_loop.specs.Setup.{MeshProblem}
 use Rattle.run_words.specs.declared.options.SystemMode.{SystemMode}
 use Rattle.run_words.specs.declared.options.SystemMode.TheVariants as systems
@@ -65,11 +64,13 @@ use Rattle.diagnostics.specs.Lines.{status_of}
 use Rattle.diagnostics.specs.Stages.{Then, stops, goes, Says}
 use Rattle.run_texts.specs.Texts.{Texts, TextFor, UcdMesh, MshMesh, MeshIn, ProblemIn, VectorIn, ReadTexts}
 use Rattle.run_texts.specs.Read.{SourceRead, VectorUnder}
+use Rattle.system_setup.specs.declared.scheme.Scheme.{Scheme}
+use Rattle.system_setup.specs.Scheme.{number_of}
 use Rattle.system_setup.specs.SetUp.{CoarseOf, RefinedFrom, ForestOf, RefinedFurther, LinesFor, PatternedFor, SetUpOn, IsSetUp}
 use Rattle.system_texts.specs.Sums.{SummedBy, Summed}
 use Rattle.system_texts.specs.Texts.{TextsOf}
 use Rattle.assemble_core.specs.Answer.{AreRefused, Asked, Answers}
-use Rattle.run_targets.specs.Defines.{flags_of, MeshTexts, Assembled, AssembledOn, VectorMade, Made, Defines}
+use Rattle.run_targets.specs.Defines.{scheme_of, MeshTexts, Assembled, AssembledOn, VectorMade, Made, Defines}
 use Rattle.assemble_core.specs.Run as run
 use Rattle.assemble_core.specs.Run.{Outside, Leaves}
 use Rattle.answer_laws.specs.Runs.{RefusedWordsHaveStatus2}
@@ -200,17 +201,17 @@ coarse_mesh_keeps points quads lines refusal is = says_keeps _ _ coarse_keeps re
 refined_keeps : (mesh : CoarseMesh) (problem : ProblemParts) → KeepsWords (RefinedFrom mesh problem)
 refined_keeps mesh problem refusal is = says_keeps _ _ refining_keeps refusal is
 
-lines_keep : (ids : List ℕ) (problem : ProblemParts) (forest : RefinedMesh) → KeepsWords (LinesFor ids problem forest)
-lines_keep ids problem forest refusal is = says_keeps _ _ constraints_keep refusal is
+lines_keep : (degree : ℕ) (ids : List ℕ) (problem : ProblemParts) (forest : RefinedMesh) → KeepsWords (LinesFor degree ids problem forest)
+lines_keep degree ids problem forest refusal is = says_keeps _ _ constraints_keep refusal is
 
-pattern_keeps : (flags : Flags) (problem : ProblemParts) (forest : RefinedMesh) (table : List (Option AffineLine)) → KeepsWords (PatternedFor flags problem forest table)
-pattern_keeps flags problem forest table refusal is same = (let e : Limit _ ≡ Words = sym is.3 ∙ same in cc)
+pattern_keeps : (scheme : Scheme) (problem : ProblemParts) (forest : RefinedMesh) (table : List (Option AffineLine)) → KeepsWords (PatternedFor scheme problem forest table)
+pattern_keeps scheme problem forest table refusal is same = (let e : Limit _ ≡ Words = sym is.3 ∙ same in cc)
 
-set_up_keeps : (flags : Flags) (parts : MeshParts) (problem : ProblemParts) → KeepsWords (IsSetUp flags parts problem)
-set_up_keeps flags parts problem =
+set_up_keeps : (scheme : Scheme) (parts : MeshParts) (problem : ProblemParts) → KeepsWords (IsSetUp scheme parts problem)
+set_up_keeps scheme parts problem =
     then_keeps _ _ (coarse_mesh_keeps parts.points parts.quads parts.lines)
     (λ mesh. then_keeps _ _ (refined_keeps mesh problem)
-    (λ forest. then_keeps _ _ (lines_keep parts.ids problem forest) (pattern_keeps flags problem forest)))
+    (λ forest. then_keeps _ _ (lines_keep (number_of scheme.degree) parts.ids problem forest) (pattern_keeps scheme problem forest)))
 
 -- the sums and their texts
 sum_keeps : (mode : SystemMode) (digits : ℕ) (s : MeshProblem) → KeepsWords (SummedBy mode digits s)
@@ -224,7 +225,7 @@ targets_keep mode output s rows refusal is same = is
 
 assembled_keeps : (mode : SystemMode) (choice : Choice) (read : MeshParts × ProblemParts) → KeepsWords (Assembled mode choice read)
 assembled_keeps mode choice read =
-    then_keeps _ _ (set_up_keeps (flags_of choice) read.0 read.1) (λ s. then_keeps _ _ (all_sums_keep mode choice.digits s) (targets_keep mode choice.output s))
+    then_keeps _ _ (set_up_keeps (scheme_of choice) read.0 read.1) (λ s. then_keeps _ _ (all_sums_keep mode choice.digits s) (targets_keep mode choice.output s))
 
 mesh_texts_keep : (output : Output) (mesh : MeshParts) → KeepsWords (MeshTexts output mesh)
 mesh_texts_keep output mesh refusal is same = cc
@@ -264,15 +265,15 @@ further_keeps forest cells refusal is = says_keeps _ _ refining_keeps refusal is
 forest_keeps : (parts : MeshParts) (problem : ProblemParts) → KeepsWords (ForestOf parts problem)
 forest_keeps parts problem = then_keeps _ _ (coarse_mesh_keeps parts.points parts.quads parts.lines) (λ mesh. refined_keeps mesh problem)
 
-set_up_on_keeps : (flags : Flags) (ids : List ℕ) (problem : ProblemParts) (forest : RefinedMesh) → KeepsWords (SetUpOn flags ids problem forest)
-set_up_on_keeps flags ids problem forest = then_keeps _ _ (lines_keep ids problem forest) (pattern_keeps flags problem forest)
+set_up_on_keeps : (scheme : Scheme) (ids : List ℕ) (problem : ProblemParts) (forest : RefinedMesh) → KeepsWords (SetUpOn scheme ids problem forest)
+set_up_on_keeps scheme ids problem forest = then_keeps _ _ (lines_keep (number_of scheme.degree) ids problem forest) (pattern_keeps scheme problem forest)
 
 assembled_on_keeps : (choice : Choice) (read : MeshParts × ProblemParts) (forest : RefinedMesh) → KeepsWords (AssembledOn choice read.0.ids read.1 forest)
 assembled_on_keeps choice read forest =
-    then_keeps _ _ (set_up_on_keeps (flags_of choice) read.0.ids read.1 forest) (λ s. then_keeps _ _ (all_sums_keep systems.Serial choice.digits s) (targets_keep systems.Serial choice.output s))
+    then_keeps _ _ (set_up_on_keeps (scheme_of choice) read.0.ids read.1 forest) (λ s. then_keeps _ _ (all_sums_keep systems.Serial choice.digits s) (targets_keep systems.Serial choice.output s))
 
 vector_made_keeps : (task : VectorTask) (choice : Choice) (read : MeshParts × ProblemParts) (values : List ℤ) → KeepsWords (VectorMade task choice read values)
-vector_made_keeps tasks.Product choice read values = then_keeps _ _ (set_up_keeps (flags_of choice) read.0 read.1) (product_texts_keep choice.output values)
+vector_made_keeps tasks.Product choice read values = then_keeps _ _ (set_up_keeps (scheme_of choice) read.0 read.1) (product_texts_keep choice.output values)
 vector_made_keeps (tasks.Marks count) choice read values =
     then_keeps _ _ (forest_keeps read.0 read.1) (λ forest. then_keeps _ _ (marked_keeps count values forest) (marks_text_keeps choice.output))
 vector_made_keeps (tasks.Adapt count) choice read values =

@@ -33,7 +33,7 @@ use Rattle.system_texts.specs.Texts.{SystemTexts}
 use Rattle.system_laws.specs.Laws.{AreQuadrilaterals, HasASetUp, CanBeSetUp, CanBeRefined, HasAForest, TextsHaveQuadrilaterals}
 use Rattle.diagnostics.specs.declared.refusal.Refusal.TheVariants.{Words}
 use Rattle.assemble_core.specs.Answer.{Asked}
-use Rattle.run_targets.specs.Defines.{flags_of, Assembled, FinerMesh, AssembledOn, VectorMade, Made, Defines}
+use Rattle.run_targets.specs.Defines.{scheme_of, Assembled, FinerMesh, AssembledOn, VectorMade, Made, Defines}
 use Rattle.answer_laws.specs.Parts.{HaveAReading, HaveAVector, HaveAListOfTexts}
 use Rattle.answer_laws.specs.Existence.{HaveAnAnswer}
 use Rattle.answer_laws.proofs.Steps.{HasAnOutcome, some_after, some_behind, some_stopped}
@@ -66,12 +66,12 @@ module _ (one_choice : (words : List (List ℕ)) (first second : Choice) → Ask
 
   some_assembled : (mode : SystemMode) (choice : Choice) (read : Mesh × ProblemParts) → AreQuadrilaterals read.0 → HasAnOutcome (Assembled mode choice read)
   some_assembled mode choice read four =
-      some_after (IsSetUp (flags_of choice) read.0 read.1) (SystemTexts mode choice) (some_set_up (flags_of choice) read.0 read.1 four) (λ s is. some_list mode choice s)
+      some_after (IsSetUp (scheme_of choice) read.0 read.1) (SystemTexts mode choice) (some_set_up (scheme_of choice) read.0 read.1 four) (λ s is. some_list mode choice s)
 
   -- the system on a mesh on which the problem can be set up
   some_assembled_on : (choice : Choice) (read : Mesh × ProblemParts) (forest : RefinedMesh) → CanBeSetUp read.1 forest → HasAnOutcome (AssembledOn choice read.0.ids read.1 forest)
   some_assembled_on choice read forest can =
-      some_after (SetUpOn (flags_of choice) read.0.ids read.1 forest) (SystemTexts systems.Serial choice) (can (flags_of choice) read.0.ids) (λ s is. some_list systems.Serial choice s)
+      some_after (SetUpOn (scheme_of choice) read.0.ids read.1 forest) (SystemTexts systems.Serial choice) (can (scheme_of choice) read.0.ids) (λ s is. some_list systems.Serial choice s)
 
   finer_or_not : (choice : Choice) (read : Mesh × ProblemParts) (count : ℕ) (values : List ℤ) (forest : RefinedMesh) (marks : Marks) (outcome : Result RefinedMesh Refusal) →
       MarkedOn count values forest (Ok marks) → RefinedFurther forest marks.1 outcome → IfOk outcome (CanBeSetUp read.1) → HasAnOutcome (Then (FinerMesh count values forest) (AssembledOn choice read.0.ids read.1))
@@ -97,7 +97,7 @@ module _ (one_choice : (words : List (List ℕ)) (first second : Choice) → Ask
 
   some_vector_made : (task : VectorTask) (choice : Choice) (read : Mesh × ProblemParts) (values : List ℤ) → AreQuadrilaterals read.0 → HasAnOutcome (VectorMade task choice read values)
   some_vector_made tasks.Product choice read values four =
-      some_after (IsSetUp (flags_of choice) read.0 read.1) (ProductTexts choice.output values) (some_set_up (flags_of choice) read.0 read.1 four) (λ s is. some_product choice.output values s)
+      some_after (IsSetUp (scheme_of choice) read.0 read.1) (ProductTexts choice.output values) (some_set_up (scheme_of choice) read.0 read.1 four) (λ s is. some_product choice.output values s)
   some_vector_made (tasks.Marks count) choice read values four =
       let forest = some_forest read.0 read.1 four in
       some_after (ForestOf read.0 read.1) (MarksTexts choice.output count values) (forest.outcome, forest.is)

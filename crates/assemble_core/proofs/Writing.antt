@@ -1,13 +1,11 @@
 -- The writing of one text.
-use Rattle.std.proofs.Common.{◌≡◌, ◌∙◌, ap, sym, subst, refl, ℕ, suc, ◌+◌, List, [], ◌∷◌, ◌++◌, length, arith, inl, inr}
-use Rattle.std.specs.Prelude.{Ok, Err, IfErr, OnOk}
-use Rattle.std.specs.declared.result.Result.{Result}
-use Rattle.run_outputs.specs.Targets.{Target, World, after_target, after_targets}
+use Rattle.std.proofs.Common.{◌≡◌, ap, sym, subst, suc, ◌+◌, List, [], ◌∷◌, ◌++◌, length, arith, inr}
+use Rattle.std.specs.Prelude.{Err}
+use Rattle.run_outputs.specs.Targets.{Target, World, after_targets}
 use Rattle.run_outputs.specs.Stops.{StopsAt, StopsAmong}
 use Rattle.diagnostics.specs.declared.ending.Ending as endings
 use Rattle.diagnostics.specs.declared.ending.Ending.TheVariants as ends
 use Rattle.batch_sources.specs.declared.ending.BatchEnding.{BatchEnding}
-use Rattle.batch_sources.specs.declared.ending.BatchEnding.TheVariants.{Refused, ReadFault, WriteFault, NoMemory}
 use Rattle.assemble_core.specs.Writing.{IsOfWriting, EndsWriting, Writing}
 
 abbrev head_or : Target → List Target → Target

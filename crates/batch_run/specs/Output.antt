@@ -1,5 +1,5 @@
 -- The text of a batch: what its jobs come to, in their order.
-use Rattle.std.specs.Prelude.{◌≡◌, ℕ, suc, ◌<◌, List, [], ◌∷◌, ◌++◌, codes, decimal, map, length, slice_index_or}
+use Rattle.std.specs.Prelude.{◌≡◌, ℕ, suc, List, [], ◌∷◌, ◌++◌, codes, decimal, map, slice_index_or}
 use Rattle.std.specs.List.{concat}
 use Rattle.fem_text.specs.Memory.{Named}
 use Rattle.batch_answers.specs.Outcome.{JobOver, IsAnswer}

@@ -1,2 +1,5 @@
 pub mod Shelving
 pub mod Naming
+pub mod Places
+pub mod OneReading
+pub mod SomeReading

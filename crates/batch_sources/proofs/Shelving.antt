@@ -3,7 +3,7 @@ use Rattle.std.proofs.Common.{◌≡◌, ◌∙◌, ap, sym, subst, refl, ℕ, z
 use Rattle.std.specs.Prelude.{Some}
 use Rattle.std.specs.declared.option.Option.{Option}
 use Rattle.std.specs.Str.{bytes_eq}
-use Rattle.std.proofs.lemmas.List.{length-append}
+use Rattle.std.proofs.lemmas.List.{length-append, length-map}
 use Rattle.std.proofs.lemmas.List.Elements.{All-append}
 use Rattle.std.proofs.lemmas.List.Sums.{fold-append}
 use Rattle.fem_text.specs.declared.counts.Counts.{Counts}
@@ -25,7 +25,7 @@ good_more : (m n : ℕ) (before : Counts) → after_good m (after_good n before)
 good_more zero n before = let e : n ≡ zero + n = omega arith in ap (λ k. after_good k before) e
 good_more (suc m) n before = let e : suc (m + n) ≡ suc m + n = omega arith in ap (after_call false) (good_more m n before) ∙ ap (λ k. after_good k before) e
 
-found_before : (texts more : Named) (name text : List ℕ) → held_of texts name ≡ Some text → held_of (texts ++ more) name ≡ Some text
+pub found_before : (texts more : Named) (name text : List ℕ) → held_of texts name ≡ Some text → held_of (texts ++ more) name ≡ Some text
 found_before [] more name text is = cc
 found_before (first ∷ texts) more name text is = behind_first (bytes_eq name first.0) (found_before texts more name text) is
   where
@@ -80,16 +80,21 @@ module _ (holds : Option Held) (name : List ℕ) (before : Counts) where
 
   -- the batch text isn't to be had
   pub first_ends : (now : Counts) (fault : NameFault) → IsNameFault holds name [] fault → now ≡ after_call (is_failed fault) before → EndsSources holds name before now (name_ending Batch fault)
-  first_ends now faults.Absent is read = (([], (name, (refl, refl), is)), (1, read))
-  first_ends now faults.Size is read = ((Batch, [], (name, (refl, refl), is)), (1, read))
+  first_ends now faults.Absent is read = (([], (name, (refl, refl), is)), read)
+  first_ends now faults.Size is read = ((Batch, [], (name, (refl, refl), is)), read)
   first_ends now faults.Failed is read = ([], (name, (refl, refl), is), read)
   first_ends now faults.NoMemory is read = (1, read)
 
   module _ (shelf : Named) (reached : Counts) (first : ShelvesNames holds (name ∷ []) [] shelf before reached) where
+    one_read : reached ≡ after_good 1 before
+    one_read =
+        let one : length first.added ≡ 1 = sym (length-map first.added (λ (text : List ℕ × List ℕ). text.0)) ∙ ap (λ texts. length (names_of texts)) (sym first.new_is) ∙ ap length first.names_are in
+        first.reads ∙ ap (λ n. after_good n before) one
+
     -- the batch text has a fault
     fault_ends : (kind : BatchKind) (line : ℕ) → HasLineFault shelf name kind line → EndsSources holds name before reached (line_ending kind line)
-    fault_ends kinds.Words line is = (record { text = is.text; texts = shelf; texts_are = has_read is.text [] shelf reached first is.text_is; fault = is.fault }, (length first.added, first.reads))
-    fault_ends kinds.Count line is = (record { text = is.text; texts = shelf; texts_are = has_read is.text [] shelf reached first is.text_is; fault = is.fault }, (length first.added, first.reads))
+    fault_ends kinds.Words line is = (record { text = is.text; texts = shelf; texts_are = has_read is.text [] shelf reached first is.text_is; fault = is.fault }, one_read)
+    fault_ends kinds.Count line is = (record { text = is.text; texts = shelf; texts_are = has_read is.text [] shelf reached first is.text_is; fault = is.fault }, one_read)
     fault_ends kinds.NoMemory line is = (length first.added, first.reads)
 
     pub text_ends : (ending : BatchEnding) → EndsText shelf name ending → EndsSources holds name before reached ending
@@ -136,8 +141,8 @@ module _ (holds : Option Held) (name : List ℕ) (before : Counts) where
         calls_well made is = stop.stops.read ∙ ap (λ b. after_call b stop.stops.reached) is ∙ ap (after_call made) (reads_made (name ∷ read_names stop.stops.front) stop.new stop.stops.reached all_before)
 
       stop_ends : (now : Counts) (job : ℕ) (fault : NameFault) → StopsJobs holds jobs shelf reached now job fault → EndsSources holds name before now (name_ending (Job job) fault)
-      stop_ends now job faults.Absent stop = ((stop.new, (stop.stops.name, next_read now job faults.Absent stop, stop.stops.cause)), (suc (length stop.new), calls_well now job faults.Absent stop false refl))
-      stop_ends now job faults.Size stop = ((Job job, stop.new, (stop.stops.name, next_read now job faults.Size stop, stop.stops.cause)), (suc (length stop.new), calls_well now job faults.Size stop false refl))
+      stop_ends now job faults.Absent stop = ((stop.new, (stop.stops.name, next_read now job faults.Absent stop, stop.stops.cause)), calls_well now job faults.Absent stop false refl)
+      stop_ends now job faults.Size stop = ((Job job, stop.new, (stop.stops.name, next_read now job faults.Size stop, stop.stops.cause)), calls_well now job faults.Size stop false refl)
       stop_ends now job faults.Failed stop = (stop.new, (stop.stops.name, next_read now job faults.Failed stop, stop.stops.cause), calls_well now job faults.Failed stop true refl)
       stop_ends now job faults.NoMemory stop = (suc (length stop.new), calls_well now job faults.NoMemory stop false refl)
 

@@ -1,5 +1,5 @@
 -- The texts of a batch, and how their reading ends.
-use Rattle.std.specs.Prelude.{◌≡◌, ℕ, List, [], ◌∷◌, ◌++◌, length, true, Some}
+use Rattle.std.specs.Prelude.{◌≡◌, ℕ, suc, List, [], ◌∷◌, ◌++◌, length, true, Some}
 use Rattle.std.specs.declared.option.Option.{Option}
 use Rattle.fem_text.specs.declared.counts.Counts.{Counts}
 use Rattle.fem_text.specs.Counts.{AllWell, after_call, after_good}
@@ -72,10 +72,17 @@ RefusesSources holds name (Count line) = HasFault holds name kinds.Count line
 RefusesSources holds name Size = (role : BatchRole) × (before : Named) × StopsAtRead holds name role faults.Size before
 RefusesSources holds name (Absent role) = (before : Named) × StopsAtRead holds name role faults.Absent before
 
--- the reading of a batch's texts ends so: they are refused; the read of this text failed, and each before it went well; or memory
--- ran out
+-- how many reads were made where the texts are refused so: that of the batch text, or one more than there were texts
+abbrev pub reads_made : (holds : Option Held) (name : List ℕ) (refusal : BatchRefusal) → RefusesSources holds name refusal → ℕ
+reads_made holds name (Text line) is = 1
+reads_made holds name (Count line) is = 1
+reads_made holds name Size is = suc (length is.1)
+reads_made holds name (Absent role) is = suc (length is.0)
+
+-- the reading of a batch's texts ends so: they are refused, and so many reads went well; the read of this text failed, and each
+-- before it went well; or memory ran out
 abbrev pub EndsSources : Option Held → List ℕ → Counts → Counts → BatchEnding → Type 0
-EndsSources holds name before now (Refused refusal) = RefusesSources holds name refusal × AllWell before now
+EndsSources holds name before now (Refused refusal) = (is : RefusesSources holds name refusal) × (now ≡ after_good (reads_made holds name refusal is) before)
 EndsSources holds name before now (ReadFault role) =
     (texts : Named) × StopsAtRead holds name role faults.Failed texts × (now ≡ after_call true (after_good (length texts) before))
 EndsSources holds name before now WriteFault = ⊥

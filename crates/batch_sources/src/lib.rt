@@ -2,9 +2,11 @@
 #![tactic(auto)]
 
 mod ending;
+mod laws;
 mod lines;
 mod names;
 mod read;
 
 pub use ending::{BatchEnding, BatchRefusal, BatchRole};
+pub use laws::{sources_have_a_reading, sources_have_one_reading};
 pub use read::{BatchSources, read_batch_sources};

@@ -1,4 +1,6 @@
 pub mod Entries
+pub mod Rooms
 pub mod Made
-pub mod Placed
+pub mod Squares
+pub mod Visited
 pub mod Filled

@@ -1,6 +1,5 @@
 -- The block of a visit, and the blocks of a cell.
-use Rattle.std.specs.Prelude.{ℕ, List, [], ◌∷◌, ◌++◌, length, map, slice_index, slice_index_or, ℤ, Some, None, Ok, Err}
-use Rattle.std.specs.declared.option.Option.{Option}
+use Rattle.std.specs.Prelude.{ℕ, ◌+◌, ◌==◌, cond, List, [], ◌∷◌, ◌++◌, length, map, slice_index, slice_index_or, Ok, Err}
 use Rattle.std.specs.declared.result.Result.{Result}
 use Rattle.std.specs.List.{range_with_len}
 use Rattle.fem_fixed.specs.declared.mesh.Point.{Point}
@@ -15,11 +14,9 @@ use Rattle.problem_read.specs.LookUps.{diffusion_on, source_on, robin_on, penalt
 use Rattle.fixed_q1.specs.declared.fault.LocalFault.{LocalFault}
 use Rattle.fixed_q1.specs.declared.places.Part.{Part}
 use Rattle.fixed_q1.specs.declared.places.Part.TheVariants.{Whole, Half0, Half1}
-use Rattle.fixed_q1.specs.LocalForm.{LocalForm, zero_matrix, zero_load}
-use Rattle.fixed_q1.specs.CellForm.{cell_form}
-use Rattle.fixed_q1.specs.BoundaryForm.{boundary_form, end_numbers}
-use Rattle.fixed_q1.specs.JumpForm.{jump_form}
+use Rattle.fixed_q1.specs.LocalForm.{LocalForm}
 use Rattle.fixed_q1.specs.Places.{reference_place}
+use Rattle.cell_blocks.specs.Forms.{cell_form, face_form, jump_form}
 use Rattle.cell_blocks.specs.LocalBlocks.{LocalBlock}
 use Rattle.mesh_visits.specs.declared.flags.Flags.{Flags}
 use Rattle.mesh_visits.specs.declared.visit.Visit.{Visit}
@@ -49,34 +46,37 @@ end_points given cell face = point_at (points_of given cell) (face_start face) �
 abbrev pub end_dofs : Given → ℕ → ℕ → List ℕ
 end_dofs given cell face = slice_index (dofs_of given cell) (face_start face) ∷ slice_index (dofs_of given cell) (face_end face) ∷ []
 
+-- with degree 2, the dof of the middle of a face
+abbrev pub middle_dof : Given → ℕ → ℕ → ℕ
+middle_dof given cell face = slice_index (dofs_of given cell) (4 + face)
+
+-- the dofs of a face: of its two ends, and with degree 2 of its middle
+abbrev pub face_dofs : Given → ℕ → ℕ → List ℕ
+face_dofs given cell face = end_dofs given cell face ++ cond (given.dofs.degree == 2) (middle_dof given cell face ∷ []) []
+
 -- the ends of a part of an interior face: those of the face that is the part whole, of the cell here where both are
 abbrev pub part_ends : Given → ℕ → ℕ → ℕ → ℕ → Part → List Point
 part_ends given cell face other other_face Whole = end_points given cell face
 part_ends given cell face other other_face Half0 = end_points given other other_face
 part_ends given cell face other other_face Half1 = end_points given other other_face
 
--- the form of a boundary face: zeros where nothing is set on its id
-abbrev pub face_form : Option (ℤ × ℤ) → List Point → LocalForm
-face_form None ends = record { matrix = zero_matrix end_numbers; load = zero_load end_numbers }
-face_form (Some robin) ends = boundary_form ends robin.0 robin.1
-
 -- the dofs of a visit of a cell; a dof may stand twice
 abbrev pub visit_dofs : Given → ℕ → Visit → List ℕ
 visit_dofs given cell OnCell = dofs_of given cell
-visit_dofs given cell (OnBoundary face id) = end_dofs given cell face
+visit_dofs given cell (OnBoundary face id) = face_dofs given cell face
 visit_dofs given cell (OnPart face other other_face here there) = dofs_of given cell ++ dofs_of given other
 
 abbrev pub own_form : Given → ℕ → Result LocalForm LocalFault
-own_form given cell = cell_form (points_of given cell) (diffusion_on given.problem (material_of given cell)) (source_on given.problem (material_of given cell))
+own_form given cell = cell_form given.dofs.degree (points_of given cell) (diffusion_on given.problem (material_of given cell)) (source_on given.problem (material_of given cell))
 
 abbrev pub part_form : Given → ℕ → ℕ → ℕ → ℕ → Part → Part → Result LocalForm LocalFault
 part_form given cell face other other_face here there =
-    jump_form (points_of given cell) (reference_place face here) (points_of given other) (reference_place other_face there) (part_ends given cell face other other_face here) (penalty_in given.problem)
+    jump_form given.dofs.degree (points_of given cell) (reference_place face here) (points_of given other) (reference_place other_face there) (part_ends given cell face other other_face here) (penalty_in given.problem)
 
 -- the local form of a visit, or its fault
 abbrev pub visit_form : Given → ℕ → Visit → Result LocalForm LocalFault
 visit_form given cell OnCell = own_form given cell
-visit_form given cell (OnBoundary face id) = Ok (face_form (robin_on given.problem id) (end_points given cell face))
+visit_form given cell (OnBoundary face id) = Ok (face_form given.dofs.degree (robin_on given.problem id) (end_points given cell face))
 visit_form given cell (OnPart face other other_face here there) = part_form given cell face other other_face here there
 
 abbrev pub with_dofs : List ℕ → Result LocalForm LocalFault → Result LocalBlock LocalFault

@@ -1,14 +1,13 @@
--- The block of a local system, and of one that is lent.
-use Rattle.std.specs.Prelude.{ℕ}
-use Rattle.cell_blocks.specs.LocalBlocks.{LocalBlock}
+-- The block of a local system: its numbers that are used.
+use Rattle.std.specs.Prelude.{◌≤◌, map, take}
+use Rattle.cell_blocks.specs.LocalBlocks.{LocalBlock, IsBlock}
 use Rattle.cell_blocks.specs.declared.local.LocalSystem.{LocalSystem}
-use Rattle.cell_blocks.specs.declared.local.Lent.{Lent}
-use Rattle.cell_blocks.specs.declared.local.Lent.TheVariants.{Cell, Face, Part}
 
-abbrev pub block_in : {n : ℕ} → LocalSystem n → LocalBlock
-block_in system = record { dofs = system.dofs; form = record { matrix = system.matrix; load = system.load } }
+abbrev pub block_in : LocalSystem → LocalBlock
+block_in system =
+    record { dofs = take system.used system.dofs; form = record { matrix = map (take system.used) (take system.used system.matrix); load = take system.used system.load } }
 
-abbrev pub seen : Lent → LocalBlock
-seen (Cell system) = block_in system.now
-seen (Face system) = block_in system.now
-seen (Part system) = block_in system.now
+-- within its room, and a block
+pub record IsWhole (system : LocalSystem) : Type 0 where
+  pub within : system.used ≤ 18
+  pub block : IsBlock (block_in system)

@@ -1,7 +1,9 @@
 pub mod LocalBlocks
 pub mod Lending
+pub mod Forms
 pub mod Blocks
 pub mod Visited
 pub mod Views
+pub mod Sides
 pub mod Stored
 pub mod Filling

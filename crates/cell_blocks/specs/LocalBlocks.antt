@@ -10,9 +10,9 @@ pub record LocalBlock : Type 0 where
 abbrev pub IsSmallEntry : ℤ → Type 0
 IsSmallEntry entry = unsigned_abs entry ≤ 2 ^ 72
 
--- at most eight dofs, a row and a column of the matrix for each, and numbers within 2 ^ 72 in size
+-- at most eighteen dofs, a row and a column of the matrix for each, and numbers within 2 ^ 72 in size
 pub record IsBlock (block : LocalBlock) : Type 0 where
-  pub few : length block.dofs ≤ 8
+  pub few : length block.dofs ≤ 18
   pub rows : length block.form.matrix ≡ length block.dofs
   pub columns : All (λ row. length row ≡ length block.dofs) block.form.matrix
   pub load : length block.form.load ≡ length block.dofs

@@ -1,10 +1,10 @@
--- What a copy object shows, and when a block is made.
-use Rattle.std.specs.Prelude.{◌≡◌, List, [], Ok, Err}
+-- What a copy object shows.
+use Rattle.std.specs.Prelude.{List, [], Ok, Err}
 use Rattle.std.specs.declared.option.Option.{Option}
 use Rattle.std.specs.declared.option.Option.TheVariants.{Some, None}
 use Rattle.std.specs.declared.result.Result.{Result}
 use Rattle.fixed_q1.specs.declared.fault.LocalFault.{LocalFault}
-use Rattle.cell_blocks.specs.LocalBlocks.{LocalBlock, IsBlock}
+use Rattle.cell_blocks.specs.LocalBlocks.{LocalBlock}
 
 abbrev pub fault_in : Result (List LocalBlock) LocalFault → Option LocalFault
 fault_in (Ok blocks) = None
@@ -14,8 +14,3 @@ fault_in (Err fault) = Some fault
 abbrev pub blocks_in : Result (List LocalBlock) LocalFault → List LocalBlock
 blocks_in (Ok blocks) = blocks
 blocks_in (Err fault) = []
-
--- a block is made: it is this one and within its sizes, or it has this fault
-abbrev pub IsBlockMade : {A : Type 0} → Result LocalBlock LocalFault → LocalBlock → Result A LocalFault → Type 0
-IsBlockMade wanted made (Ok done) = (wanted ≡ Ok made) × IsBlock made
-IsBlockMade wanted made (Err fault) = wanted ≡ Err fault

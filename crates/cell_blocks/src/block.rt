@@ -1,64 +1,60 @@
 ghost use Rattle.std.specs.Prelude.{◌≡◌, ◌<◌, ◌≤◌, ◌^◌, [], All, length, pos, unsigned_abs, slice_index, slice_index_or};
 ghost use Rattle.cell_blocks.specs.LocalBlocks.{IsBlock, IsSmallEntry};
-ghost use Rattle.cell_blocks.specs.Lending.{seen};
+ghost use Rattle.cell_blocks.specs.Lending.{block_in, IsWhole};
 
-use crate::local::Lent;
+use crate::local::LocalSystem;
 use std::marker::Model;
 
 /// What one visit of a cell gives, lent by the copy object where it stands: dofs, of which one may stand twice,
 /// a local matrix and a load, in units of 2^-32. Contracts see these.
 #[derive(Drop)]
 pub struct Block<'a> {
-    lent: Lent<'a>,
+    system: &'a LocalSystem,
 }
 
 impl<'a> Model for Block<'a> {
-    ghost use Rattle.cell_blocks.specs.LocalBlocks.{LocalBlock, IsBlock};
-    ghost use Rattle.cell_blocks.specs.Lending.{seen};
+    ghost use Rattle.cell_blocks.specs.LocalBlocks.{LocalBlock};
+    ghost use Rattle.cell_blocks.specs.Lending.{block_in, IsWhole};
 
     ghost Value = { LocalBlock };
 
-    ghost view = { λ block. seen block.lent };
+    ghost view = { λ block. block_in block.system.now };
 
-    ghost invariant = { λ block. IsBlock (seen block.lent) };
+    ghost invariant = { λ block. IsWhole block.system.now };
 }
 
 impl<'a> Block<'a> {
     /// The block that stands there.
-    pub(crate) fn new(lent: Lent<'a>) -> Block<'a>
-        requires { IsBlock (seen lent) }
-        ensures { result ≡ seen lent.entry }
+    pub(crate) fn new(system: &'a LocalSystem) -> Block<'a>
+        requires { IsWhole system.now }
+        ensures { result ≡ block_in system.now }
     {
-        Block { lent }
+        Block { system }
     }
 
     /// The block is within its limits.
     pub fn is_within_limits(&self)
         ensures { IsBlock self.now }
     {
-        let _lent = &self.lent;
+        let _system = &self.system;
     }
 
     /// The dofs of the block.
     pub fn dofs(&self) -> &[u32]
         ensures { result.now ≡ self.now.dofs }
     {
-        match self.lent {
-            Lent::Cell(system) => &system.dofs,
-            Lent::Face(system) => &system.dofs,
-            Lent::Part(system) => &system.dofs,
-        }
+        &self.system.dofs[..self.system.used]
     }
 
     /// A row of the local matrix, in units of 2^-32; empty past its last row.
     pub fn row(&self, i: usize) -> &[i128]
         ensures { result.now ≡ slice_index_or self.now.form.matrix i [] }
     {
-        match self.lent {
-            Lent::Cell(system) => row_of(&system.matrix, i),
-            Lent::Face(system) => row_of(&system.matrix, i),
-            Lent::Part(system) => row_of(&system.matrix, i),
+        self.is_within_limits();
+        if i < self.dofs().len() {
+            return self.row_at(i);
         }
+        &[]
     }
 
     /// A row that the local matrix has, in units of 2^-32.
@@ -68,11 +64,8 @@ impl<'a> Block<'a> {
         ensures length { length result.now ≡ length self.now.dofs }
         ensures small { All IsSmallEntry result.now }
     {
-        match self.lent {
-            Lent::Cell(system) => &system.matrix[i],
-            Lent::Face(system) => &system.matrix[i],
-            Lent::Part(system) => &system.matrix[i],
-        }
+        let system = self.system;
+        &system.matrix[i][..system.used]
     }
 
     /// The load, in units of 2^-32.
@@ -81,11 +74,7 @@ impl<'a> Block<'a> {
         ensures length { length result.now ≡ length self.now.dofs }
         ensures small { All IsSmallEntry result.now }
     {
-        match self.lent {
-            Lent::Cell(system) => &system.load,
-            Lent::Face(system) => &system.load,
-            Lent::Part(system) => &system.load,
-        }
+        &self.system.load[..self.system.used]
     }
 
     /// The dof of a local row.
@@ -118,15 +107,5 @@ impl<'a> Block<'a> {
     {
         let load = self.load();
         load[i]
-    }
-}
-
-/// A row of a matrix; empty past its last row.
-fn row_of<const N: usize>(matrix: &[[i128; N]; N], i: usize) -> &[i128]
-    ensures { result.now ≡ slice_index_or matrix.now i [] }
-{
-    match matrix.get(i) {
-        Some(row) => row,
-        None => &[],
     }
 }

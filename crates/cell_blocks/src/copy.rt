@@ -3,29 +3,33 @@ ghost use Rattle.cell_blocks.specs.LocalBlocks.{IsBlock};
 ghost use Rattle.cell_blocks.specs.Visited.{fault_in, blocks_in};
 
 use crate::block::Block;
+use crate::linear::LinearScratch;
+use crate::quadratic::QuadraticScratch;
 use crate::systems::Systems;
 use fem_fixed::NoMemory;
-use fixed_q1::{LocalFault, Q1Scratch};
+use fixed_q1::LocalFault;
 use std::alloc::Global;
 use std::marker::Model;
 
-/// Room to work in for the local forms of a cell. What it holds before a call never matters.
+/// Room to work in for the local forms of a cell, of either degree. What it holds before a call never matters.
 #[derive(Drop)]
 pub struct CellScratch {
-    pub(crate) forms: Q1Scratch,
+    pub(crate) linear: LinearScratch,
+    pub(crate) quadratic: QuadraticScratch,
 }
 
 impl CellScratch {
     /// Room with nothing in it yet.
     pub fn new() -> CellScratch {
         CellScratch {
-            forms: Q1Scratch::new(),
+            linear: LinearScratch::new(),
+            quadratic: QuadraticScratch::new(),
         }
     }
 }
 
 /// The copy object of a cell: the blocks of its visits, or the fault of the first visit that has one. It has
-/// room for every cell, and the local forms are written where they stay.
+/// room for every cell, of either degree.
 #[derive(Drop)]
 pub struct CellCopy {
     pub(crate) systems: Systems,
@@ -80,7 +84,6 @@ impl CellCopy {
         requires { k < length (blocks_in self.now) }
         ensures { result ≡ slice_index_or (blocks_in self.now) k result }
     {
-        let slot = self.systems.slots[k as usize];
-        Block::new(self.systems.lend(slot))
+        Block::new(&self.systems.list[k as usize])
     }
 }

@@ -1,14 +1,16 @@
-ghost use Rattle.std.specs.Prelude.{◌≡◌, ◌<◌, ◌≤◌, ◌+◌, [], ◌∷◌, All, length};
+ghost use Rattle.std.specs.Prelude.{◌≡◌, ◌<◌, length};
 ghost use Rattle.dof_numbers.specs.Dofs.{IsNumberingOf};
-ghost use Rattle.mesh_visits.specs.Within.{IsVisitWithin, IsFit, count_of, is_of_boundary, is_of_part};
+ghost use Rattle.mesh_visits.specs.Within.{IsVisitWithin, IsFit};
 ghost use Rattle.cell_blocks.specs.Blocks.{blocks_of, block_of};
-ghost use Rattle.cell_blocks.specs.Filling.{IsVisitMade, AreBlocksMade};
+ghost use Rattle.cell_blocks.specs.Filling.{IsMade, AreBlocksMade};
 ghost use Rattle.cell_blocks.specs.Views.{given};
 
 use crate::copy::{CellCopy, CellScratch};
-use crate::forms::{Side, write_face, write_own, write_part};
+use crate::forms::{write_face, write_own, write_part};
+use crate::local::LocalSystem;
 use crate::setting::Setting;
-use crate::systems::{Slot, Systems};
+use crate::sides::Side;
+use crate::systems::Systems;
 use fixed_q1::LocalFault;
 use mesh_visits::Visit;
 
@@ -44,48 +46,35 @@ fn fill_systems(
     ensures { AreBlocksMade (blocks_of (given setting.now) cell visits.now) systems.new result }
 {
     systems.used = 0;
-    systems.faces_used = 0;
-    systems.parts_used = 0;
     for visit in visits {
-        match write_visit(setting, cell, *visit, scratch, systems) {
-            Ok(slot) => {
-                systems.slots[systems.used] = slot;
-                systems.used += 1;
-            }
-            Err(fault) => {
-                systems.used = 0;
-                return Some(fault);
-            }
+        let at = systems.used;
+        if let Err(fault) = write_visit(setting, cell, *visit, scratch, &mut systems.list[at]) {
+            systems.used = 0;
+            return Some(fault);
         }
+        systems.used = at + 1;
     }
     None
 }
 
-/// Writes the local system of a visit in the next place for one of its kind.
+/// Writes the local system of a visit.
 fn write_visit(
     setting: &Setting,
     cell: u32,
     visit: Visit,
     scratch: &mut CellScratch,
-    systems: &mut Systems,
-) -> Result<Slot, LocalFault>
+    system: &mut LocalSystem,
+) -> Result<(), LocalFault>
     requires numbered { IsNumberingOf setting.now.forest.now setting.now.dofs.now }
     requires cell { cell < length setting.now.forest.now.cells }
     requires visit { IsVisitWithin setting.now.forest.now visit }
-    requires faces { systems.old.faces_used + count_of is_of_boundary (visit ∷ []) ≤ 4 }
-    requires parts { systems.old.parts_used + count_of is_of_part (visit ∷ []) ≤ 8 }
-    ensures { IsVisitMade (given setting.now) cell visit systems.old systems.new result }
+    ensures { IsMade (block_of (given setting.now) cell visit) system.new result }
 {
     match visit {
-        Visit::Cell => {
-            write_own(setting, cell, scratch, &mut systems.own)?;
-            Ok(Slot::Cell)
-        }
+        Visit::Cell => write_own(setting, cell, scratch, system),
         Visit::Boundary { face, id } => {
-            let at = systems.faces_used;
-            write_face(setting, cell, face, id, &mut systems.faces[at]);
-            systems.faces_used += 1;
-            Ok(Slot::Face(at as u8))
+            write_face(setting, cell, face, id, scratch, system);
+            Ok(())
         }
         Visit::Interior {
             face,
@@ -104,10 +93,7 @@ fn write_visit(
                 face: other_face,
                 part: there,
             };
-            let at = systems.parts_used;
-            write_part(setting, mine, theirs, scratch, &mut systems.parts[at])?;
-            systems.parts_used += 1;
-            Ok(Slot::Part(at as u8))
+            write_part(setting, mine, theirs, scratch, system)
         }
     }
 }

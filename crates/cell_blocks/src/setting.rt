@@ -6,13 +6,12 @@ use fem_fixed::Point;
 use hanging_refine::Forest;
 use problem_read::Problem;
 
-/// What blocks are made of: a refined mesh, its dofs of degree 1, and the coefficients of a problem.
+/// What blocks are made of: a refined mesh, its dofs of degree 1 or 2, and the coefficients of a problem.
 #[derive(Drop)]
 pub struct Setting<'a> {
     pub forest: &'a Forest,
     pub dofs: &'a Dofs,
     pub problem: &'a Problem,
-    ghost of_degree_one: { dofs.now.degree ≡ 1 },
 }
 
 impl Setting<'_> {
@@ -21,16 +20,6 @@ impl Setting<'_> {
     ghost use Rattle.dof_numbers.specs.Dofs.{IsNumberingOf};
     ghost use Rattle.cell_blocks.specs.Blocks as blocks;
     ghost use Rattle.cell_blocks.specs.Views.{given};
-
-    /// The dofs of a cell.
-    pub fn cell_dofs(&self, cell: u32) -> [u32; 4]
-        requires numbered { IsNumberingOf self.now.forest.now self.now.dofs.now }
-        requires cell { cell < length self.now.forest.now.cells }
-        ensures { result ≡ blocks.dofs_of (given self.now) cell }
-    {
-        let dofs = self.dofs.of_cell(cell);
-        [dofs[0], dofs[1], dofs[2], dofs[3]]
-    }
 
     /// The points of the two ends of a face of a cell.
     pub fn end_points(&self, cell: u32, face: u8) -> [Point; 2]
@@ -48,8 +37,24 @@ impl Setting<'_> {
         requires cell { cell < length self.now.forest.now.cells }
         ensures { result ≡ blocks.end_dofs (given self.now) cell face }
     {
-        let dofs = self.cell_dofs(cell);
+        let dofs = self.dofs.of_cell(cell);
         [dofs[first_vertex(face)], dofs[last_vertex(face)]]
+    }
+
+    /// The dofs of the two ends of a face of a cell, and of its middle.
+    pub fn end_and_middle_dofs(&self, cell: u32, face: u8) -> [u32; 3]
+        requires degree { self.now.dofs.now.degree ≡ 2 }
+        requires numbered { IsNumberingOf self.now.forest.now self.now.dofs.now }
+        requires cell { cell < length self.now.forest.now.cells }
+        requires face { face < 4 }
+        ensures { result ≡ blocks.face_dofs (given self.now) cell face }
+    {
+        let dofs = self.dofs.of_cell(cell);
+        [
+            dofs[first_vertex(face)],
+            dofs[last_vertex(face)],
+            dofs[4 + face as usize],
+        ]
     }
 }
 

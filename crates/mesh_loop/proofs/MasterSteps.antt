@@ -1,5 +1,5 @@
 -- Masters of dofs, one dof after another, and dofs below the number of dofs.
-use Rattle.std.proofs.Common.{◌≡◌, ◌∙◌, sym, ap, subst, ℕ, ◌+◌, ◌<◌, List, [], ◌∷◌, ◌++◌, length, map, take, arith, lit<, Some, None, slice_index, slice_index_or}
+use Rattle.std.proofs.Common.{◌≡◌, ◌∙◌, sym, ap, subst, ℕ, ◌+◌, ◌<◌, ◌==◌, cond, inl, inr, List, [], ◌∷◌, ◌++◌, length, map, take, arith, lit<, Some, None, slice_index, slice_index_or}
 use Rattle.std.specs.List.{All, flat_map}
 use Rattle.std.specs.declared.option.Option.{Option}
 use Rattle.std.proofs.lemmas.Bool.{cases_lt}
@@ -11,11 +11,11 @@ use Rattle.affine_constraints.specs.Lines.{AffineLine, Lines, IsTerm}
 use Rattle.block_sums.specs.Masters.{masters, itself}
 use Rattle.block_sums.proofs.Values.{free_masters, line_masters}
 use Rattle.corner_names.specs.Cells.{face_start, face_end}
-use Rattle.dof_numbers.specs.Dofs.{Numbering, IsNumberingOf, cell_dof}
+use Rattle.dof_numbers.specs.Dofs.{Numbering, IsDegree, IsNumberingOf, cell_dof, names_each}
 use Rattle.dof_numbers.proofs.Every.{four_each}
 use Rattle.dof_numbers.proofs.Rows.{dofs_of_corners}
 use Rattle.hanging_refine.specs.Refined.{RefinedMesh}
-use Rattle.cell_blocks.specs.Blocks.{Given, dofs_of, end_dofs}
+use Rattle.cell_blocks.specs.Blocks.{Given, dofs_of, end_dofs, middle_dof, face_dofs}
 use Rattle.mesh_loop.specs.Setup.{masters_of}
 
 -- the masters of one dof
@@ -72,11 +72,11 @@ unfolding masters_of
 none_below lines n = All-nil (λ d. d < n)
 
 -- the dofs of a cell are below the number of dofs
-pub cell_below : (forest : RefinedMesh) (dofs : Numbering) (cell : ℕ) (row : List ℕ) → IsNumberingOf forest dofs → cell < length forest.cells → row ≡ slice_index_or dofs.cells cell [] → length row ≡ 4 →
+pub cell_below : (forest : RefinedMesh) (dofs : Numbering) (cell : ℕ) (row : List ℕ) → IsNumberingOf forest dofs → cell < length forest.cells → row ≡ slice_index_or dofs.cells cell [] →
     All (λ d. d < dofs.size) (slice_index_or dofs.cells cell [])
-cell_below forest dofs cell row numbered within is four k d h =
-    let few : k < 4 = omega (arith, h, ap length is, four) in
-    let low = (dofs_of_corners forest dofs numbered).below cell k within (omega (arith, few, four_each dofs.degree numbered.degree)) in
+cell_below forest dofs cell row numbered within is k d h =
+    let count : length (slice_index_or dofs.cells cell []) ≡ names_each dofs.degree = numbered.each cell [] (omega (arith, numbered.count, within)) in
+    let low = (dofs_of_corners forest dofs numbered).below cell k within (omega (arith, h, count)) in
     let P : ℕ → Type 0 = λ n. n < dofs.size in
     subst P (get_or_default (slice_index_or dofs.cells cell []) k 0 d h) low
 
@@ -94,3 +94,14 @@ ends_below given cell face numbered within =
     let first : ℕ = slice_index (dofs_of given cell) (face_start face) in
     let last : ℕ = slice_index (dofs_of given cell) (face_end face) in
     All-cons P first (last ∷ []) (below (face_start face) (start_small face)) (All-cons P last [] (below (face_end face) (end_small face)) (All-nil P))
+
+if_middle : (n m : ℕ) (P : ℕ → Type 0) → IsDegree n → (n ≡ 2 → P m) → All P (cond (n == 2) (m ∷ []) [])
+if_middle n m P (inl one) h = let Q : ℕ → Type 0 = λ k. All P (cond (k == 2) (m ∷ []) []) in subst Q (sym one) (All-nil P)
+if_middle n m P (inr two) h = let Q : ℕ → Type 0 = λ k. All P (cond (k == 2) (m ∷ []) []) in subst Q (sym two) (All-cons P m [] (h two) (All-nil P))
+
+pub face_below : (given : Given) (cell face : ℕ) → IsNumberingOf given.forest given.dofs → cell < length given.forest.cells → face < 4 → All (λ d. d < given.dofs.size) (face_dofs given cell face)
+face_below given cell face numbered within few =
+    let P : ℕ → Type 0 = λ d. d < given.dofs.size in
+    let middle : given.dofs.degree ≡ 2 → P (middle_dof given cell face) = λ two. (dofs_of_corners given.forest given.dofs numbered).below cell (4 + face) within (omega (arith, few, ap names_each two)) in
+    All-append P (end_dofs given cell face) (cond (given.dofs.degree == 2) (middle_dof given cell face ∷ []) []) (ends_below given cell face numbered within)
+    (if_middle given.dofs.degree (middle_dof given cell face) P numbered.degree middle)

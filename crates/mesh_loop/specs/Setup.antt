@@ -18,9 +18,8 @@ pub record MeshProblem : Type 0 where
   pub closed : List (Option AffineLine)
   pub flags : Flags
 
--- the dofs are those of degree 1 of the mesh, and the closed lines are for them
+-- the dofs are those of the mesh, and the closed lines are for them
 pub record IsMatched (s : MeshProblem) : Type 0 where
-  pub degree : s.given.dofs.degree ≡ 1
   pub numbered : IsNumberingOf s.given.forest s.given.dofs
   pub lines : length s.closed ≡ s.given.dofs.size
 

@@ -1,7 +1,7 @@
 ghost use Rattle.std.specs.Prelude.{◌≡◌, ◌<◌, ◌≤◌, ◌++◌, ◌∷◌, [], ℕ, All, length, map, IfOk, IfErr, OnOk};
 ghost use Rattle.std.specs.List.{flat_map};
 ghost use Rattle.std.specs.List.Sorted.{IsStrictlyIncreasing};
-ghost use Rattle.cell_blocks.specs.Blocks.{visit_dofs};
+ghost use Rattle.cell_blocks.specs.Blocks.{visit_dofs, face_dofs};
 ghost use Rattle.mesh_visits.specs.Within.{IsVisitWithin, IsFit};
 ghost use Rattle.sparsity.specs.Coupled.{has, pairs_of};
 ghost use Rattle.sparsity.specs.declared.fault.PatternFault.TheVariants.{Limit as AboveLimit};
@@ -153,11 +153,7 @@ fn push_dofs(list: &mut Vec<u32>, source: &Source, cell: u32, visit: Visit) -> R
 {
     match visit {
         Visit::Cell => push_cell_dofs(list, source, cell),
-        Visit::Boundary { face, .. } => {
-            let ends = source.setting.end_dofs(cell, face);
-            list.extend_from_slice(&ends)?;
-            Ok(())
-        }
+        Visit::Boundary { face, .. } => push_face_dofs(list, source, cell, face),
         Visit::Interior { other, .. } => {
             push_cell_dofs(list, source, cell)?;
             push_cell_dofs(list, source, other)?;
@@ -173,8 +169,25 @@ fn push_cell_dofs(list: &mut Vec<u32>, source: &Source, cell: u32) -> Result<(),
     ensures value { OnOk result (list.new.items ≡ list.old.items ++ visit_dofs (shown source.now).given cell Visit.Cell) }
     ensures below { OnOk result (All (λ dof. dof < (shown source.now).given.dofs.size) (visit_dofs (shown source.now).given cell Visit.Cell)) }
 {
-    let dofs = source.setting.cell_dofs(cell);
-    list.extend_from_slice(&dofs)?;
+    list.extend_from_slice(source.setting.dofs.of_cell(cell))?;
+    Ok(())
+}
+
+/// Adds the dofs of a face of a cell.
+fn push_face_dofs(list: &mut Vec<u32>, source: &Source, cell: u32, face: u8) -> Result<(), NoMemory>
+    requires matched { IsMatched (shown source.now) }
+    requires cell { cell < length (shown source.now).given.forest.cells }
+    requires face { face < 4 }
+    ensures value { OnOk result (list.new.items ≡ list.old.items ++ face_dofs (shown source.now).given cell face) }
+    ensures below { OnOk result (All (λ dof. dof < (shown source.now).given.dofs.size) (face_dofs (shown source.now).given cell face)) }
+{
+    if source.setting.dofs.degree() == 2 {
+        let dofs = source.setting.end_and_middle_dofs(cell, face);
+        list.extend_from_slice(&dofs)?;
+        return Ok(());
+    }
+    let ends = source.setting.end_dofs(cell, face);
+    list.extend_from_slice(&ends)?;
     Ok(())
 }
 

@@ -27,8 +27,7 @@ pub fn look_up(setting: &Setting, cell: u32, visit: Visit)
             here,
             there,
         } => {
-            let _dofs = setting.cell_dofs(cell);
-            let _others = setting.cell_dofs(other);
+            let _others = setting.dofs.of_cell(other);
         }
     }
 }
@@ -40,7 +39,6 @@ fn look_up_own(setting: &Setting, cell: u32)
     ensures block { IfOk (block_of (given setting.now) cell Visit.Cell) IsBlock }
     ensures some { 0 < length (visit_dofs (given setting.now) cell Visit.Cell) }
 {
-    let _dofs = setting.cell_dofs(cell);
     let _points = setting.forest.points(cell);
     let material = setting.forest.material(cell);
     let _source = setting.problem.source(material);
@@ -48,6 +46,7 @@ fn look_up_own(setting: &Setting, cell: u32)
 
 /// Looks up what the block of a face at the boundary is made of.
 fn look_up_face(setting: &Setting, cell: u32, face: u8, id: u32)
+    requires numbered { IsNumberingOf setting.now.forest.now setting.now.dofs.now }
     requires cell { cell < length setting.now.forest.now.cells }
     ensures block { IfOk (block_of (given setting.now) cell (Visit.Boundary face id)) IsBlock }
     ensures some { 0 < length (visit_dofs (given setting.now) cell (Visit.Boundary face id)) }

@@ -50,7 +50,7 @@ impl Model for Setup {
 }
 
 impl Setup {
-    /// A set-up, of dofs of degree 1. It takes one pass over the cells, and the rows of the pattern are made in
+    /// A set-up, of dofs of degree 1 or 2. It takes one pass over the cells, and the rows of the pattern are made in
     /// several threads.
     ///
     /// # Errors
@@ -65,7 +65,6 @@ impl Setup {
         problem: Problem,
         flags: Flags,
     ) -> Result<Setup, PatternFault>
-        requires degree { dofs.degree ≡ 1 }
         requires numbered { IsNumberingOf forest dofs }
         requires lines { length closed ≡ dofs.size }
         ensures value { IfOk result (λ setup. setup ≡ record { given = record { forest = forest; dofs = dofs; problem = problem }; closed = closed; flags = flags }) }

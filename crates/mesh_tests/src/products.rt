@@ -13,7 +13,7 @@ use problem_read::read_problem;
 use scratch_pool::OpenGate;
 use std::alloc::Global;
 use std::thread::Threads;
-use system_setup::set_up;
+use system_setup::{Degree, Scheme, set_up};
 use ucd_read::read_ucd;
 
 /// The largest value, in ticks.
@@ -64,16 +64,19 @@ fn set_up_of<R: Threads + Sync + AllocGlobal>(rt: &R, mesh: &str, problem: &str)
         Ok(problem) => problem,
         Err(_) => return None,
     };
-    let flags = Flags {
-        cells: true,
-        boundary: true,
-        interior: Interior::None,
-        cells_after_faces: false,
-        own: None,
-        ghost_parts: Interior::None,
-        ghost_cells: false,
+    let scheme = Scheme {
+        degree: Degree::One,
+        flags: Flags {
+            cells: true,
+            boundary: true,
+            interior: Interior::None,
+            cells_after_faces: false,
+            own: None,
+            ghost_parts: Interior::None,
+            ghost_cells: false,
+        },
     };
-    set_up(rt, rt.alloc(), parts, problem, flags).ok()
+    set_up(rt, rt.alloc(), parts, problem, scheme).ok()
 }
 
 /// The cells by colours.

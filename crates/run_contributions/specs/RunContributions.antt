@@ -52,9 +52,9 @@ BlocksAreTwoSided lines given = (test : Contribution → Bool) → IsTwoSided (p
 abbrev pub SameInSomeOrder : List Contribution → List Contribution → Type 0
 SameInSomeOrder xs ys = (test : Contribution → Bool) → length (filter test xs) ≡ length (filter test ys)
 
--- the dofs are those of the mesh, of degree 1
+-- the dofs are those of the mesh, of degree 1 or 2
 abbrev pub AreOfMesh : Given → Type 0
-AreOfMesh given = (given.dofs.degree ≡ 1) × IsNumberingOf given.forest given.dofs
+AreOfMesh given = IsNumberingOf given.forest given.dofs
 
 abbrev pub AllBlocksAreTwoSided : Type 0
 AllBlocksAreTwoSided = (lines : Lines) (given : Given) → AreOfMesh given → BlocksAreTwoSided lines given

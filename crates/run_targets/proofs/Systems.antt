@@ -17,10 +17,10 @@ use Rattle.diagnostics.proofs.StageLaws.{ends_first, ends_next, goes_well}
 use Rattle.system_setup.specs.SetUp.{IsSetUp}
 use Rattle.system_texts.specs.Sums.{Summed}
 use Rattle.system_texts.specs.Texts.{AreTargets, TextsOf, SystemTexts}
-use Rattle.run_targets.specs.Defines.{flags_of, Assembled}
+use Rattle.run_targets.specs.Defines.{scheme_of, Assembled}
 
 abbrev SetUpOf : Choice → (Mesh × ProblemParts) → Result MeshProblem Refusal → Type 0
-SetUpOf choice read = IsSetUp (flags_of choice) read.0 read.1
+SetUpOf choice read = IsSetUp (scheme_of choice) read.0 read.1
 
 module _ (mode : SystemMode) (choice : Choice) (read : Mesh × ProblemParts) where
   -- the set-up ends it

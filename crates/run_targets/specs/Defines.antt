@@ -1,6 +1,6 @@
 -- What a choice defines over what a store holds: the texts that are written, or a refusal. The steps of the work follow one
 -- another up to the first that is refused.
-use Rattle.std.specs.Prelude.{◌≡◌, ℕ, ℤ, Bool, List, [], ◌∷◌, true, false, Some, None, Ok}
+use Rattle.std.specs.Prelude.{◌≡◌, ◌==◌, cond, ℕ, ℤ, Bool, List, [], ◌∷◌, true, false, Some, None, Ok}
 use Rattle.std.specs.declared.option.Option.{Option}
 use Rattle.std.specs.declared.result.Result.{Result}
 use Rattle.fem_fixed.specs.Mesh.{Mesh}
@@ -21,6 +21,9 @@ use Rattle.run_words.specs.declared.options.Subdomain.{Subdomain}
 use Rattle.run_words.specs.Choice.{Mode, of_system, of_mesh, of_vector, Choice, Output}
 use Rattle.run_texts.specs.Read.{SourceRead, VectorUnder}
 use Rattle.run_outputs.specs.Targets.{Target, first_target}
+use Rattle.system_setup.specs.declared.scheme.Scheme.{Scheme}
+use Rattle.system_setup.specs.declared.scheme.Degree.{Degree}
+use Rattle.system_setup.specs.declared.scheme.Degree.TheVariants.{One, Two}
 use Rattle.system_setup.specs.SetUp.{ForestOf, RefinedFurther, SetUpOn, IsSetUp}
 use Rattle.system_texts.specs.Texts.{SystemTexts}
 use Rattle.vector_texts.specs.Product.{ProductTexts}
@@ -47,13 +50,21 @@ flags_by interior (Some subdomain) = run_flags interior (Some subdomain.id) (int
 abbrev pub flags_of : Choice → Flags
 flags_of choice = flags_by (interior_of choice.faces) choice.subdomain
 
+-- the degree of a number: 2, or else 1
+abbrev pub degree_of : ℕ → Degree
+degree_of number = cond (number == 2) Two One
+
+-- what a run assembles: the degree of its shape functions, and what it visits
+abbrev pub scheme_of : Choice → Scheme
+scheme_of choice = record { degree = degree_of choice.degree; flags = flags_of choice }
+
 -- the text of a mesh, which nothing refuses
 abbrev pub MeshTexts : Output → Mesh → Result (List Target) Refusal → Type 0
 MeshTexts output mesh outcome = outcome ≡ Ok (first_target output (mesh_text mesh) ∷ [])
 
 -- the set-up of a mesh and a problem, and then the texts of its system
 abbrev pub Assembled : SystemMode → Choice → (Mesh × ProblemParts) → Result (List Target) Refusal → Type 0
-Assembled mode choice read = Then (IsSetUp (flags_of choice) read.0 read.1) (SystemTexts mode choice)
+Assembled mode choice read = Then (IsSetUp (scheme_of choice) read.0 read.1) (SystemTexts mode choice)
 
 -- the mesh after one more step of refinement, of the cells that a vector marks
 abbrev pub FinerMesh : ℕ → List ℤ → RefinedMesh → Result RefinedMesh Refusal → Type 0
@@ -61,12 +72,12 @@ FinerMesh count values forest = Then (MarkedOn count values forest) (λ (marks :
 
 -- the texts of the system on a refined mesh, with the node ids of the mesh text, in the order of its cells
 abbrev pub AssembledOn : Choice → List ℕ → ProblemParts → RefinedMesh → Result (List Target) Refusal → Type 0
-AssembledOn choice ids problem forest = Then (SetUpOn (flags_of choice) ids problem forest) (SystemTexts systems.Serial choice)
+AssembledOn choice ids problem forest = Then (SetUpOn (scheme_of choice) ids problem forest) (SystemTexts systems.Serial choice)
 
 -- what is made of a vector, with a mesh and a problem: its product with the operator of the system; the marked cells; or the
 -- system on the mesh that is refined once more
 abbrev pub VectorMade : VectorTask → Choice → (Mesh × ProblemParts) → List ℤ → Result (List Target) Refusal → Type 0
-VectorMade tasks.Product choice read values outcome = Then (IsSetUp (flags_of choice) read.0 read.1) (ProductTexts choice.output values) outcome
+VectorMade tasks.Product choice read values outcome = Then (IsSetUp (scheme_of choice) read.0 read.1) (ProductTexts choice.output values) outcome
 VectorMade (tasks.Marks count) choice read values outcome = Then (ForestOf read.0 read.1) (MarksTexts choice.output count values) outcome
 VectorMade (tasks.Adapt count) choice read values outcome =
     Then (ForestOf read.0 read.1) (λ forest. Then (FinerMesh count values forest) (AssembledOn choice read.0.ids read.1)) outcome

@@ -25,7 +25,7 @@ use sparsity::Rows;
 use std::alloc::Global;
 use std::sync::Wait;
 use std::thread::Threads;
-use system_setup::{set_up, set_up_on};
+use system_setup::{Degree, Scheme, set_up, set_up_on};
 use system_texts::{make_targets, sum_rows, sum_rows_by_pipeline};
 
 /// The texts of the system of a mesh and a problem. It does not wait.
@@ -121,12 +121,12 @@ pub(crate) fn prepare<R: Threads + Sync>(
 ) -> Result<Setup, Ending>
     requires bounded { IsBounded read.0 }
     requires ids { length read.0.ids ≤ 2 ^ 20 }
-    ensures ok { IfOk result (λ setup. IsSetUp (meaning.flags_of (seen options.now)) read.0 read.1 (Ok setup)) }
+    ensures ok { IfOk result (λ setup. IsSetUp (meaning.scheme_of (seen options.now)) read.0 read.1 (Ok setup)) }
     ensures few { IfOk result (λ setup. length (concat (pattern_of setup)) ≤ 33554432) }
-    ensures ends { IfErr result (EndsIn (IsSetUp (meaning.flags_of (seen options.now)) read.0 read.1)) }
+    ensures ends { IfErr result (EndsIn (IsSetUp (meaning.scheme_of (seen options.now)) read.0 read.1)) }
 {
     let (parts, problem) = read;
-    set_up(rt, alloc, parts, problem, flags_of(options))
+    set_up(rt, alloc, parts, problem, scheme_of(options))
 }
 
 /// Sets up on a refined mesh, with the node ids of the mesh text.
@@ -139,11 +139,11 @@ pub(crate) fn prepare_on<R: Threads + Sync>(
     forest: Forest,
 ) -> Result<Setup, Ending>
     requires ids { length ids.now ≤ 2 ^ 20 }
-    ensures ok { IfOk result (λ setup. SetUpOn (meaning.flags_of (seen options.now)) ids.now problem forest (Ok setup)) }
+    ensures ok { IfOk result (λ setup. SetUpOn (meaning.scheme_of (seen options.now)) ids.now problem forest (Ok setup)) }
     ensures few { IfOk result (λ setup. length (concat (pattern_of setup)) ≤ 33554432) }
-    ensures ends { IfErr result (EndsIn (SetUpOn (meaning.flags_of (seen options.now)) ids.now problem forest)) }
+    ensures ends { IfErr result (EndsIn (SetUpOn (meaning.scheme_of (seen options.now)) ids.now problem forest)) }
 {
-    set_up_on(rt, alloc, ids, forest, problem, flags_of(options))
+    set_up_on(rt, alloc, ids, forest, problem, scheme_of(options))
 }
 
 // The texts of sums.
@@ -162,6 +162,27 @@ fn finish<'a>(
     match make_targets(alloc, mode, options.output, setup, rows) {
         Ok(targets) => Ok(targets),
         Err(NoMemory) => Err(Ending::NoMemory),
+    }
+}
+
+// What the run assembles.
+fn scheme_of(options: &Options) -> Scheme
+    ensures { result ≡ meaning.scheme_of (seen options.now) }
+{
+    Scheme {
+        degree: degree_of(options.degree),
+        flags: flags_of(options),
+    }
+}
+
+// The degree of a number.
+fn degree_of(number: u32) -> Degree
+    ensures { result ≡ meaning.degree_of number }
+{
+    if number == 2 {
+        Degree::Two
+    } else {
+        Degree::One
     }
 }
 

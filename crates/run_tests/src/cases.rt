@@ -116,7 +116,7 @@ pub(crate) const WRITTEN: [(&str, &str, &str, &str); 32] = [
 ];
 
 // Words, mesh, problem, and some of the lines on standard output.
-pub(crate) const SOME_LINES: [(&str, &str, &str, &[&str]); 9] = [
+pub(crate) const SOME_LINES: [(&str, &str, &str, &[&str]); 11] = [
     (
         "--generate 64 --seed 7 --summary",
         "",
@@ -177,10 +177,22 @@ pub(crate) const SOME_LINES: [(&str, &str, &str, &[&str]); 9] = [
         "diffusion 1 16384\nconstraint 2 = 16*1\nconstraint 6 = 16*1\n",
         &["% unit 2^-32"],
     ),
+    (
+        "--mesh mesh --degree 2",
+        SQUARE,
+        "",
+        &["9 9 81", "1 1 2672433397", "9 9 24433583084"],
+    ),
+    (
+        "--degree=2 --mesh mesh --problem problem --summary",
+        STRIP,
+        "refine 1\n",
+        &["cells 5", "dofs 31"],
+    ),
 ];
 
 // Words of runs that give the same text, mesh, problem, and a line of that text.
-pub(crate) const SAME: [(&[&str], &str, &str, &str); 3] = [
+pub(crate) const SAME: [(&[&str], &str, &str, &str); 4] = [
     (
         &[
             "--mesh mesh --problem problem --digits 24",
@@ -216,6 +228,18 @@ pub(crate) const SAME: [(&[&str], &str, &str, &str); 3] = [
         "",
         "",
         "91 1",
+    ),
+    (
+        &[
+            "--mesh mesh --problem problem --degree 2 --faces once --rhs -",
+            "--mesh mesh --problem problem --degree 2 --faces once --rhs - --mode ordered --workers 1",
+            "--mesh mesh --problem problem --degree 2 --faces once --rhs - --mode ordered --workers 8",
+            "--mesh mesh --problem problem --degree 2 --faces once --rhs - --mode colored --workers 1",
+            "--mesh mesh --problem problem --degree 2 --faces once --rhs - --mode colored --workers 8",
+        ],
+        STRIP,
+        "refine 1\npenalty 1\n",
+        "31 1",
     ),
 ];
 

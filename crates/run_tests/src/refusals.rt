@@ -437,7 +437,7 @@ pub(crate) const BAD_PROBLEMS: [(&str, &str); 22] = [
 ];
 
 // Words that ask for nothing.
-pub(crate) const NO_WORDS: [&str; 52] = [
+pub(crate) const NO_WORDS: [&str; 56] = [
     "",
     "--mesh a --workers 0",
     "--mesh a --queue 257",
@@ -490,4 +490,8 @@ pub(crate) const NO_WORDS: [&str; 52] = [
     "--mesh a --subdomain 00000000000",
     "--mesh a --subdomain 1 --subdomain 1",
     "--mesh a --subdomain 1 --ghost-cells --ghost-cells",
+    "--mesh a --degree 0",
+    "--mesh a --degree 3",
+    "--mesh a --mode marks --vector b --degree 2",
+    "--mesh a --mode adapt --vector b --degree 2",
 ];

@@ -18,6 +18,14 @@ const FIRST: &str = "%%MatrixMarket matrix array integer general\n4 1\n1\n0\n0\n
 const FIRST_COLUMN: &str =
     "%%MatrixMarket matrix array integer general\n% unit 2^-32\n4 1\n2863340768\n-715857120\n-715857120\n-1431626528\n";
 
+// The same for the square's nine dofs of degree 2.
+const FIRST_OF_NINE: &str =
+    "%%MatrixMarket matrix array integer general\n9 1\n1\n0\n0\n0\n0\n0\n0\n0\n0\n";
+
+const FIRST_COLUMN_OF_NINE: &str =
+    "%%MatrixMarket matrix array integer general\n% unit 2^-32\n9 1\n2672433397\n-143162001\n-143162001\n\
+-95442182\n-858994695\n477210558\n-858994695\n477210558\n-1527098942\n";
+
 // One at each of the eleven dofs of the strip with its second cell divided. The operator has no product with a constant, but
 // for the hanging dof, whose own row has its diagonal.
 const ONES: &str =
@@ -39,7 +47,14 @@ const SECOND_IN_PART: &str =
     "%%MatrixMarket matrix array integer general\n% unit 2^-32\n6 1\n-715857120\n2863340768\n-1431626528\n-715857120\n0\n0\n";
 
 // Words, mesh, problem, vector, and the text on standard output.
-const WRITTEN: [(&str, &str, &str, &str, &str); 9] = [
+const WRITTEN: [(&str, &str, &str, &str, &str); 10] = [
+    (
+        "--mode product --degree 2 --workers 2",
+        SQUARE,
+        "",
+        FIRST_OF_NINE,
+        FIRST_COLUMN_OF_NINE,
+    ),
     (
         "--mode product --workers 1",
         SQUARE,

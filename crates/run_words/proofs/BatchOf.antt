@@ -20,10 +20,9 @@ use Rattle.run_words.specs.BatchWords.{BatchChoice, seen_batch, is_batch_option,
 use Rattle.run_words.specs.Reading.{number_within, name_of, read_or, read_destination, ◌>>=◌}
 use Rattle.run_words.specs.BatchReading.{has_more_than_batch, read_batch, batch_reading}
 use Rattle.run_words.proofs.Cuts.{then_some}
-use Rattle.run_words.proofs.Numbers.{injected, number_read, number_given, cond_then}
+use Rattle.run_words.proofs.Numbers.{injected, number_read, number_given, value_within, cond_then}
 use Rattle.run_words.proofs.NoOption.{stands_at, switch_stands_at, neither, none_at, none_any, not_none}
 use Rattle.run_words.proofs.Rules.{destination_or_standard, matrix_read, matrix_given}
-use Rattle.run_words.proofs.Within.{value_within}
 use Rattle.run_words.proofs.SomeWords.{cases_Option, held_or_not}
 use Rattle.run_words.proofs.Asked.{given_is, stands_once, settings_are_one}
 
@@ -90,6 +89,7 @@ in_all_sets given rules in_sets names.Format = absent (is_in_set names.Format) (
 in_all_sets given rules in_sets names.Subdomain = absent (is_in_set names.Subdomain) (given.value names.Subdomain) (rules.options names.Subdomain)
 in_all_sets given rules in_sets names.Ghost = absent (is_in_set names.Ghost) (given.value names.Ghost) (rules.options names.Ghost)
 in_all_sets given rules in_sets names.Vector = absent (is_in_set names.Vector) (given.value names.Vector) (rules.options names.Vector)
+in_all_sets given rules in_sets names.Degree = absent (is_in_set names.Degree) (given.value names.Degree) (rules.options names.Degree)
 in_all_sets given rules in_sets names.Mark = absent (is_in_set names.Mark) (given.value names.Mark) (rules.options names.Mark)
 
 -- what is read of a batch

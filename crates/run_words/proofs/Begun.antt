@@ -38,6 +38,7 @@ begins_name names.Ghost = refl
 begins_name names.Vector = refl
 begins_name names.Mark = refl
 begins_name names.Batch = refl
+begins_name names.Degree = refl
 
 pub begins_joined : (name : Name) (value : List ℕ) → begins (spelled name ++ codes "=" ++ value) ≡ Some (whole (joined name value))
 unfolding begins spelled find_name find_switch spelled_alone
@@ -60,6 +61,7 @@ begins_joined names.Ghost value = refl
 begins_joined names.Vector value = refl
 begins_joined names.Mark value = refl
 begins_joined names.Batch value = refl
+begins_joined names.Degree value = refl
 
 pub begins_alone : (switch : Switch) → begins (spelled_alone switch) ≡ Some (whole (alone switch))
 unfolding begins spelled_alone find_switch

@@ -94,11 +94,11 @@ off_at zero place = refl
 off_at (suc count) zero = refl
 off_at (suc count) (suc place) = off_at count place
 
-pub holds_none : (words : List (List ℕ)) → HoldsSoFar words (held_in (replicate 19 nothing) (replicate 2 false)) words
+pub holds_none : (words : List (List ℕ)) → HoldsSoFar words (held_in (replicate 20 nothing) (replicate 2 false)) words
 holds_none words = record {
   settings = [];
   words_are = refl;
-  values_are = record { values_are = λ name. ap (λ o. option_to_list (option_copied o)) (none_at 19 (place_of name)); switches_are = λ switch. ap (λ b. cond {A = ℕ} b 1 0) (off_at 2 (switch_place switch)) };
+  values_are = record { values_are = λ name. ap (λ o. option_to_list (option_copied o)) (none_at 20 (place_of name)); switches_are = λ switch. ap (λ b. cond {A = ℕ} b 1 0) (off_at 2 (switch_place switch)) };
 }
 
 single_value : (o : Option (List ℕ)) → option_to_list o ≡ cons_option o []

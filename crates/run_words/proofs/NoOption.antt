@@ -31,6 +31,7 @@ stands_at names.Ghost = refl
 stands_at names.Vector = refl
 stands_at names.Mark = refl
 stands_at names.Batch = refl
+stands_at names.Degree = refl
 
 pub switch_stands_at : (switch : Switch) → slice_get all_switches (switch_place switch) ≡ Some switch
 switch_stands_at switches.Summary = refl

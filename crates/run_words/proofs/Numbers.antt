@@ -1,9 +1,10 @@
 -- Values that are read, and what they give.
-use Rattle.std.proofs.Common.{◌≡◌, sym, ℕ, List, Bool, true, false, cond, refl}
+use Rattle.std.proofs.Common.{◌≡◌, sym, ℕ, List, Bool, true, false, cond, refl, ◌≤◌, arith}
 use Rattle.std.specs.Prelude.{Some, None, is_some, unwrap_or}
 use Rattle.std.specs.declared.option.Option.{Option}
 use Rattle.std.specs.Option.{option_and_then}
 use Rattle.std.proofs.lemmas.Option.{cond_some}
+use Rattle.std.proofs.lemmas.Grind.{common_steps}
 use Rattle.fem_fixed.specs.Numbers.{digits_value}
 use Rattle.run_words.specs.Values.{is_number_within}
 use Rattle.run_words.specs.Choice.{number_or, named_or}
@@ -26,6 +27,14 @@ pub number_given : (least greatest default : ℕ) (value : Option (List ℕ)) �
     read_or default (number_within least greatest) value ≡ Some (number_or default value)
 number_given least greatest default None in_set = refl
 number_given least greatest default (Some word) in_set = rw in_set refl
+
+pub number_bounds : (least greatest : ℕ) (word : List ℕ) → is_number_within least greatest word ≡ true → (least ≤ digits_value word) × (digits_value word ≤ greatest)
+number_bounds least greatest word is = grind (arith, common_steps)
+
+pub value_within : (default least greatest : ℕ) (value : Option (List ℕ)) → least ≤ default → default ≤ greatest → passes (is_number_within least greatest) value ≡ true →
+    (least ≤ number_or default value) × (number_or default value ≤ greatest)
+value_within default least greatest None low high is = (low, high)
+value_within default least greatest (Some word) low high is = number_bounds least greatest word is
 
 -- what a value names
 

@@ -28,7 +28,7 @@ pub copied_cond : {A : Type 0} (b : Bool) (x : Bor A) (o : Option (Bor A)) → o
 copied_cond true x o = refl
 copied_cond false x o = refl
 
-pub place_of_below : (name : Name) → place_of name < 19
+pub place_of_below : (name : Name) → place_of name < 20
 place_of_below names.Mode = lit< tt
 place_of_below names.Mesh = lit< tt
 place_of_below names.Problem = lit< tt
@@ -48,10 +48,11 @@ place_of_below names.Ghost = lit< tt
 place_of_below names.Vector = lit< tt
 place_of_below names.Mark = lit< tt
 place_of_below names.Batch = lit< tt
+place_of_below names.Degree = lit< tt
 
 -- the option at a place
 abbrev pub name_at : ℕ → Name
-name_at place = if nat_eq place 0 then names.Mode else if nat_eq place 1 then names.Mesh else if nat_eq place 2 then names.Problem else if nat_eq place 3 then names.Workers else if nat_eq place 4 then names.Queue else if nat_eq place 5 then names.Chunk else if nat_eq place 6 then names.Scratch else if nat_eq place 7 then names.Digits else if nat_eq place 8 then names.Faces else if nat_eq place 9 then names.Matrix else if nat_eq place 10 then names.Rhs else if nat_eq place 11 then names.Generate else if nat_eq place 12 then names.Seed else if nat_eq place 13 then names.Format else if nat_eq place 14 then names.Subdomain else if nat_eq place 15 then names.Ghost else if nat_eq place 16 then names.Vector else if nat_eq place 17 then names.Mark else names.Batch
+name_at place = if nat_eq place 0 then names.Mode else if nat_eq place 1 then names.Mesh else if nat_eq place 2 then names.Problem else if nat_eq place 3 then names.Workers else if nat_eq place 4 then names.Queue else if nat_eq place 5 then names.Chunk else if nat_eq place 6 then names.Scratch else if nat_eq place 7 then names.Digits else if nat_eq place 8 then names.Faces else if nat_eq place 9 then names.Matrix else if nat_eq place 10 then names.Rhs else if nat_eq place 11 then names.Generate else if nat_eq place 12 then names.Seed else if nat_eq place 13 then names.Format else if nat_eq place 14 then names.Subdomain else if nat_eq place 15 then names.Ghost else if nat_eq place 16 then names.Vector else if nat_eq place 17 then names.Mark else if nat_eq place 18 then names.Batch else names.Degree
 
 pub name_at-place_of : (name : Name) → name_at (place_of name) ≡ name
 name_at-place_of names.Mode = refl
@@ -73,6 +74,7 @@ name_at-place_of names.Ghost = refl
 name_at-place_of names.Vector = refl
 name_at-place_of names.Mark = refl
 name_at-place_of names.Batch = refl
+name_at-place_of names.Degree = refl
 
 pub names_are_one : (name other : Name) → same_name name other ≡ true → name ≡ other
 names_are_one name other same = sym (name_at-place_of name) ∙ ap name_at (eqb-true (place_of name) (place_of other) same) ∙ name_at-place_of other
@@ -105,7 +107,7 @@ held_in values switched = record {
 }
 
 pub sets_value : (values : List (Option (Bor (List ℕ)))) (stands : List Bool) (name : Name) (place : ℕ) (value : Bor (List ℕ)) →
-    length values ≡ 19 → place ≡ place_of name → option_copied (get_or values (place_of name) None) ≡ None →
+    length values ≡ 20 → place ≡ place_of name → option_copied (get_or values (place_of name) None) ≡ None →
     Sets (held_in values stands) name value.now (held_in (set values place (Some value)) stands)
 sets_value values stands name place value full there free =
     let within : place < length values = rw (full, there) (place_of_below name) in

@@ -1,5 +1,5 @@
 -- What is read is what the words ask for.
-use Rattle.std.proofs.Common.{◌≡◌, ◌∙◌, ◌*◌, ap, sym, subst, ℕ, List, Bool, true, false, cond, refl, not}
+use Rattle.std.proofs.Common.{◌≡◌, ◌∙◌, ◌*◌, ap, sym, subst, ℕ, List, Bool, true, false, cond, refl, not, ◌≤◌, arith, nat_le}
 use Rattle.std.specs.Prelude.{Some, None, is_some, unwrap_or, ◌&&◌, ◌||◌, codes}
 use Rattle.std.specs.Str.{bytes_eq}
 use Rattle.std.proofs.lemmas.Slice.Eq.{bytes_eq-Decides}
@@ -13,19 +13,21 @@ use Rattle.run_words.specs.declared.options.Faces.TheVariants as faces
 use Rattle.std.specs.declared.option.Option.{Option}
 use Rattle.std.specs.Option.{option_map}
 use Rattle.std.proofs.lemmas.Option.{cond_some}
+use Rattle.std.proofs.lemmas.Grind.{common_steps}
+use Rattle.run_words.specs.declared.options.VectorTask.TheVariants as tasks
 use Rattle.fem_fixed.specs.Numbers.{digits_value, is_id}
 use Rattle.run_words.specs.declared.name.Name.TheVariants as names
 use Rattle.run_words.specs.declared.options.Plan.{Plan}
 use Rattle.run_words.specs.declared.options.Subdomain.{Subdomain}
 use Rattle.run_words.specs.declared.switch.Switch.TheVariants as switches
 use Rattle.run_words.specs.Settings.{Given}
-use Rattle.run_words.specs.Values.{is_name, is_number_within, mode_of, format_of, faces_of, is_in_set}
-use Rattle.run_words.specs.Choice.{Mode, mode_name_in, Source, texts, generated, Destination, standard, named, Output, summary, both, destination_of, Choice, number_or, plan_of, source_of, output_of, subdomain_of, mode_in, format_in, chosen}
+use Rattle.run_words.specs.Values.{is_name, is_number, is_number_within, mode_of, format_of, faces_of, is_in_set}
+use Rattle.run_words.specs.Choice.{Mode, of_system, of_mesh, of_vector, greatest_degree, degree_in, mode_name_in, Source, texts, generated, Destination, standard, named, Output, summary, both, destination_of, Choice, number_or, plan_of, source_of, output_of, subdomain_of, mode_in, format_in, chosen}
 use Rattle.run_words.specs.Words.{passes, AreInSets, is_standard, are_same, has_sums, is_msh, SourceRules, OutputRules, SubdomainRule, KeepsRules}
 use Rattle.run_words.specs.Reading.{number_within, name_of, read_or, read_plan, two_texts, read_source, read_mode, read_subdomain, read_destination, is_same_name, two_outputs, read_output, run_reading, reading, ◌>>=◌}
 use Rattle.run_words.proofs.Cuts.{then_some}
 use Rattle.run_words.proofs.NoOption.{not_none}
-use Rattle.run_words.proofs.Numbers.{injected, number_read, number_given, named_read, named_given, cond_then}
+use Rattle.run_words.proofs.Numbers.{injected, number_read, number_given, named_read, named_given, value_within, cond_then}
 use Rattle.run_words.proofs.Modes.{ModeInSets, mode_read, mode_given}
 
 -- the numbers of a plan
@@ -269,6 +271,43 @@ subdomain_given (Some word) parts cells in_sets rule =
     ∙ ap (λ o. o >>= (λ sides. Some (run_of cells (digits_value word) sides))) (named_given faces_of faces.None parts in_sets.parts_in)
 subdomain_given _ _ _ in_sets rule = cc
 
+-- the degree
+
+within_parts : (is : Bool) (least greatest n : ℕ) → (is && nat_le least n && nat_le n greatest) ≡ true → (is ≡ true) × (least ≤ n) × (n ≤ greatest)
+within_parts is least greatest n within = grind (arith, common_steps)
+
+within_from : (is : Bool) (least greatest n : ℕ) → is ≡ true → least ≤ n → n ≤ greatest → (is && nat_le least n && nat_le n greatest) ≡ true
+within_from is least greatest n yes_ low high = grind (arith, common_steps)
+
+narrowed : (greatest other : ℕ) (value : Option (List ℕ)) → passes (is_number_within 1 greatest) value ≡ true → number_or 1 value ≤ other → passes (is_number_within 1 other) value ≡ true
+narrowed greatest other None is low = refl
+narrowed greatest other (Some word) is low =
+    let parts = within_parts (is_number word) 1 greatest (digits_value word) is in
+    within_from (is_number word) 1 other (digits_value word) parts.0 parts.1 low
+
+one_or_two : (mode : Mode) → (1 ≤ greatest_degree mode) × (greatest_degree mode ≤ 2)
+one_or_two (of_system mode) = (omega arith, omega arith)
+one_or_two of_mesh = (omega arith, omega arith)
+one_or_two (of_vector name tasks.Product) = (omega arith, omega arith)
+one_or_two (of_vector name (tasks.Marks n)) = (omega arith, omega arith)
+one_or_two (of_vector name (tasks.Adapt n)) = (omega arith, omega arith)
+
+pub record DegreeRead (mode : Mode) (value : Option (List ℕ)) (degree : ℕ) : Type 0 where
+  pub in_set : passes (is_number_within 1 2) value ≡ true
+  pub rule : number_or 1 value ≤ greatest_degree mode
+  pub degree_is : degree ≡ number_or 1 value
+
+degree_read : (mode : Mode) (degree : ℕ) (value : Option (List ℕ)) → read_or 1 (number_within 1 (greatest_degree mode)) value ≡ Some degree → DegreeRead mode value degree
+degree_read mode degree value read =
+    let number = number_read 1 (greatest_degree mode) 1 degree value read in
+    let bounds = one_or_two mode in
+    let low = (value_within 1 1 (greatest_degree mode) value (omega arith) bounds.0 number.0).1 in
+    record { in_set = narrowed (greatest_degree mode) 2 value number.0 (omega (arith, low, bounds.1)); rule = low; degree_is = number.1 }
+
+degree_given : (mode : Mode) (value : Option (List ℕ)) → passes (is_number_within 1 2) value ≡ true → number_or 1 value ≤ greatest_degree mode →
+    read_or 1 (number_within 1 (greatest_degree mode)) value ≡ Some (number_or 1 value)
+degree_given mode value in_set rule = number_given 1 (greatest_degree mode) 1 value (narrowed 2 (greatest_degree mode) value in_set rule)
+
 -- the whole
 
 pub record IsChosen (given : Given) (choice : Choice) : Type 0 where
@@ -287,19 +326,20 @@ run_reading_given given in_sets rules =
     (record { vector_in = in_sets names.Vector; mark_in = in_sets names.Mark }) rules.vector in
     let plan = plan_given given (record { workers = in_sets names.Workers; queue = in_sets names.Queue; chunk = in_sets names.Chunk; scratch = in_sets names.Scratch }) in
     let digits = number_given 0 64 0 (given.value names.Digits) (in_sets names.Digits) in
+    let degree = degree_given (mode_in given) (given.value names.Degree) (in_sets names.Degree) rules.degree in
     let faces = named_given faces_of faces.None (given.value names.Faces) (in_sets names.Faces) in
     let subdomain = subdomain_given (given.value names.Subdomain) (given.value names.Ghost) (given.stands switches.GhostCells)
     (record { subdomain_in = in_sets names.Subdomain; parts_in = in_sets names.Ghost }) rules.subdomain in
     let output = output_given (given.value names.Matrix) (given.value names.Rhs) (given.stands switches.Summary) (has_sums (mode_name_in given))
     (record { matrix_in = in_sets names.Matrix; rhs_in = in_sets names.Rhs }) rules.output in
-    rw (mode, format, source, task, plan, digits, faces, subdomain, output) refl
+    rw (mode, format, source, task, plan, digits, degree, faces, subdomain, output) refl
 
 pub reading_given : (given : Given) → AreInSets given → KeepsRules given → reading given ≡ Some (chosen given)
 unfolding reading
 reading_given given in_sets rules = ap (λ b. cond b None (run_reading given)) rules.no_batch ∙ run_reading_given given in_sets rules
 
-abbrev put_together : Mode → Source → Plan → ℕ → Faces → Option Subdomain → Output → Choice
-put_together mode source plan digits faces subdomain output = record { mode = mode; source = source; plan = plan; digits = digits; faces = faces; subdomain = subdomain; output = output }
+abbrev put_together : Mode → Source → Plan → ℕ → ℕ → Faces → Option Subdomain → Output → Choice
+put_together mode source plan digits degree faces subdomain output = record { mode = mode; source = source; plan = plan; digits = digits; degree = degree; faces = faces; subdomain = subdomain; output = output }
 
 pub record PartsInSets (given : Given) : Type 0 where
   pub no_batch : is_some (given.value names.Batch) ≡ false
@@ -308,6 +348,7 @@ pub record PartsInSets (given : Given) : Type 0 where
   pub source_in : SourceInSets (given.value names.Mesh) (given.value names.Problem) (given.value names.Generate) (given.value names.Seed)
   pub plan_in : PlanInSets given
   pub digits_in : passes (is_number_within 0 64) (given.value names.Digits) ≡ true
+  pub degree_within : passes (is_number_within 1 2) (given.value names.Degree) ≡ true
   pub faces_in : passes (λ word. is_some (faces_of word)) (given.value names.Faces) ≡ true
   pub subdomain_in : SubdomainInSets (given.value names.Subdomain) (given.value names.Ghost)
   pub output_in : OutputInSets (given.value names.Matrix) (given.value names.Rhs)
@@ -328,6 +369,7 @@ in_all_sets given parts names.Chunk = parts.plan_in.chunk
 in_all_sets given parts names.Scratch = parts.plan_in.scratch
 in_all_sets given parts names.Digits = parts.digits_in
 in_all_sets given parts names.Faces = parts.faces_in
+in_all_sets given parts names.Degree = parts.degree_within
 in_all_sets given parts names.Matrix = parts.output_in.matrix_in
 in_all_sets given parts names.Rhs = parts.output_in.rhs_in
 in_all_sets given parts names.Generate = parts.source_in.generate_in
@@ -339,18 +381,19 @@ in_all_sets given parts names.Vector = parts.vector_in.vector_in
 in_all_sets given parts names.Mark = parts.vector_in.mark_in
 in_all_sets given parts names.Batch = absent is_name (given.value names.Batch) parts.no_batch
 
-chosen_from : (given : Given) (choice : Choice) (m : ModeName) (t : Format) (s : Source) (v : Mode) (p : Plan) (d : ℕ) (f : Faces) (u : Option Subdomain) (o : Output) →
+chosen_from : (given : Given) (choice : Choice) (m : ModeName) (t : Format) (s : Source) (v : Mode) (p : Plan) (d g : ℕ) (f : Faces) (u : Option Subdomain) (o : Output) →
     read_or (modes.System systems.Serial) mode_of (given.value names.Mode) ≡ Some m →
     read_or formats.Ucd format_of (given.value names.Format) ≡ Some t →
     read_source (given.value names.Mesh) (given.value names.Problem) (given.value names.Generate) (given.value names.Seed) t ≡ Some s →
     read_mode m (given.value names.Vector) (given.value names.Mark) s ≡ Some v →
     read_plan given ≡ Some p →
     read_or 0 (number_within 0 64) (given.value names.Digits) ≡ Some d →
+    read_or 1 (number_within 1 (greatest_degree v)) (given.value names.Degree) ≡ Some g →
     read_or faces.None faces_of (given.value names.Faces) ≡ Some f →
     read_subdomain (given.value names.Subdomain) (given.value names.Ghost) (given.stands switches.GhostCells) ≡ Some u →
     read_output (given.value names.Matrix) (given.value names.Rhs) (given.stands switches.Summary) (has_sums m) ≡ Some o →
-    put_together v s p d f u o ≡ choice → is_some (given.value names.Batch) ≡ false → IsChosen given choice
-chosen_from given choice m t s v p d f u o m_read t_read s_read v_read p_read d_read f_read u_read o_read is no_batch =
+    put_together v s p d g f u o ≡ choice → is_some (given.value names.Batch) ≡ false → IsChosen given choice
+chosen_from given choice m t s v p d g f u o m_read t_read s_read v_read p_read d_read g_read f_read u_read o_read is no_batch =
     let mode = named_read mode_of (modes.System systems.Serial) m (given.value names.Mode) m_read in
     let format = named_read format_of formats.Ucd t (given.value names.Format) t_read in
     let read_in : Format → Type 0 = λ f. SourceRead (given.value names.Mesh) (given.value names.Problem) (given.value names.Generate) (given.value names.Seed) f s in
@@ -361,36 +404,65 @@ chosen_from given choice m t s v p d f u o m_read t_read s_read v_read p_read d_
     (subst (read_from (mode_name_in given)) source.source_is (subst (λ n. read_from n s) name_is v_read)) in
     let plan = plan_read given p p_read in
     let digits = number_read 0 64 0 d (given.value names.Digits) d_read in
+    let degree = degree_read (mode_in given) g (given.value names.Degree) (subst (λ k. read_or 1 (number_within 1 (greatest_degree k)) (given.value names.Degree) ≡ Some g) task.mode_is g_read) in
     let sides = named_read faces_of faces.None f (given.value names.Faces) f_read in
     let run = subdomain_read (given.value names.Subdomain) (given.value names.Ghost) (given.stands switches.GhostCells) u u_read in
     let output = output_read (given.value names.Matrix) (given.value names.Rhs) (given.stands switches.Summary) (has_sums m) o o_read in
     record {
-      in_sets = in_all_sets given (record { no_batch = no_batch; mode_in = mode.0; format_in = format.0; source_in = source.in_sets; plan_in = plan.0; digits_in = digits.0; faces_in = sides.0; subdomain_in = run.in_sets; output_in = output.in_sets; vector_in = task.in_sets });
+      in_sets = in_all_sets given (record { no_batch = no_batch; mode_in = mode.0; format_in = format.0; source_in = source.in_sets; plan_in = plan.0; digits_in = digits.0; degree_within = degree.in_set; faces_in = sides.0; subdomain_in = run.in_sets; output_in = output.in_sets; vector_in = task.in_sets });
       rules = record {
         no_batch = no_batch;
         source = source.rules;
         output = subst (λ m. OutputRules (given.value names.Matrix) (given.value names.Rhs) (given.stands switches.Summary) (has_sums m)) mode.1 output.rules;
         subdomain = run.rule;
+        degree = degree.rule;
         vector = task.rules;
       };
-      choice_is = sym is ∙ ap (λ m. put_together m s p d f u o) task.mode_is ∙ ap (λ s. put_together (mode_in given) s p d f u o) source.source_is
-          ∙ ap (λ p. put_together (mode_in given) (chosen given).source p d f u o) plan.1
-          ∙ ap (λ d. put_together (mode_in given) (chosen given).source (plan_of given) d f u o) digits.1
-          ∙ ap (λ f. put_together (mode_in given) (chosen given).source (plan_of given) (chosen given).digits f u o) sides.1
-          ∙ ap (λ u. put_together (mode_in given) (chosen given).source (plan_of given) (chosen given).digits (chosen given).faces u o) run.run_is
-          ∙ ap (λ o. put_together (mode_in given) (chosen given).source (plan_of given) (chosen given).digits (chosen given).faces (chosen given).subdomain o) output.output_is;
+      choice_is = sym is ∙ ap (λ m. put_together m s p d g f u o) task.mode_is ∙ ap (λ s. put_together (mode_in given) s p d g f u o) source.source_is
+          ∙ ap (λ p. put_together (mode_in given) (chosen given).source p d g f u o) plan.1
+          ∙ ap (λ d. put_together (mode_in given) (chosen given).source (plan_of given) d g f u o) digits.1
+          ∙ ap (λ g. put_together (mode_in given) (chosen given).source (plan_of given) (chosen given).digits g f u o) degree.degree_is
+          ∙ ap (λ f. put_together (mode_in given) (chosen given).source (plan_of given) (chosen given).digits (degree_in given) f u o) sides.1
+          ∙ ap (λ u. put_together (mode_in given) (chosen given).source (plan_of given) (chosen given).digits (degree_in given) (chosen given).faces u o) run.run_is
+          ∙ ap (λ o. put_together (mode_in given) (chosen given).source (plan_of given) (chosen given).digits (degree_in given) (chosen given).faces (chosen given).subdomain o) output.output_is;
     }
+
+-- what is left to read, once the mode and its name, the source and the plan are known
+abbrev behind_subdomain : Given → ModeName → Mode → Source → Plan → ℕ → ℕ → Faces → Option Subdomain → Option Choice
+behind_subdomain given m v s p d g f u =
+    read_output (given.value names.Matrix) (given.value names.Rhs) (given.stands switches.Summary) (has_sums m) >>= (λ o. Some (put_together v s p d g f u o))
+
+abbrev behind_faces : Given → ModeName → Mode → Source → Plan → ℕ → ℕ → Faces → Option Choice
+behind_faces given m v s p d g f = read_subdomain (given.value names.Subdomain) (given.value names.Ghost) (given.stands switches.GhostCells) >>= (λ u. behind_subdomain given m v s p d g f u)
+
+abbrev behind_degree : Given → ModeName → Mode → Source → Plan → ℕ → ℕ → Option Choice
+behind_degree given m v s p d g = read_or faces.None faces_of (given.value names.Faces) >>= (λ f. behind_faces given m v s p d g f)
+
+abbrev behind_digits : Given → ModeName → Mode → Source → Plan → ℕ → Option Choice
+behind_digits given m v s p d = read_or 1 (number_within 1 (greatest_degree v)) (given.value names.Degree) >>= (λ g. behind_degree given m v s p d g)
+
+abbrev behind_plan : Given → ModeName → Mode → Source → Plan → Option Choice
+behind_plan given m v s p = read_or 0 (number_within 0 64) (given.value names.Digits) >>= (λ d. behind_digits given m v s p d)
+
+left_tells : (given : Given) (choice : Choice) (m : ModeName) (t : Format) (s : Source) (v : Mode) (p : Plan) →
+    read_or (modes.System systems.Serial) mode_of (given.value names.Mode) ≡ Some m →
+    read_or formats.Ucd format_of (given.value names.Format) ≡ Some t →
+    read_source (given.value names.Mesh) (given.value names.Problem) (given.value names.Generate) (given.value names.Seed) t ≡ Some s →
+    read_mode m (given.value names.Vector) (given.value names.Mark) s ≡ Some v →
+    read_plan given ≡ Some p →
+    behind_plan given m v s p ≡ Some choice → is_some (given.value names.Batch) ≡ false → IsChosen given choice
+left_tells given choice m t s v p m_read t_read s_read v_read p_read read no_batch =
+    let d = then_some (behind_digits given m v s p) (read_or 0 (number_within 0 64) (given.value names.Digits)) choice read in
+    let g = then_some (behind_degree given m v s p d.0) (read_or 1 (number_within 1 (greatest_degree v)) (given.value names.Degree)) choice d.2 in
+    let f = then_some (behind_faces given m v s p d.0 g.0) (read_or faces.None faces_of (given.value names.Faces)) choice g.2 in
+    let u = then_some (behind_subdomain given m v s p d.0 g.0 f.0) (read_subdomain (given.value names.Subdomain) (given.value names.Ghost) (given.stands switches.GhostCells)) choice f.2 in
+    let o = then_some (λ o. Some (put_together v s p d.0 g.0 f.0 u.0 o)) (read_output (given.value names.Matrix) (given.value names.Rhs) (given.stands switches.Summary) (has_sums m)) choice u.2 in
+    chosen_from given choice m t s v p d.0 g.0 f.0 u.0 o.0 m_read t_read s_read v_read p_read d.1 g.1 f.1 u.1 o.1 (injected (put_together v s p d.0 g.0 f.0 u.0 o.0) choice o.2) no_batch
 
 run_reading_tells : (given : Given) (choice : Choice) → run_reading given ≡ Some choice → is_some (given.value names.Batch) ≡ false → IsChosen given choice
 unfolding run_reading
 run_reading_tells given choice read no_batch =
-    let behind_subdomain : ModeName → Mode → Source → Plan → ℕ → Faces → Option Subdomain → Option Choice = λ m v s p d f u.
-    read_output (given.value names.Matrix) (given.value names.Rhs) (given.stands switches.Summary) (has_sums m) >>= (λ o. Some (put_together v s p d f u o)) in
-    let behind_faces : ModeName → Mode → Source → Plan → ℕ → Faces → Option Choice = λ m v s p d f.
-    read_subdomain (given.value names.Subdomain) (given.value names.Ghost) (given.stands switches.GhostCells) >>= (λ u. behind_subdomain m v s p d f u) in
-    let behind_digits : ModeName → Mode → Source → Plan → ℕ → Option Choice = λ m v s p d. read_or faces.None faces_of (given.value names.Faces) >>= (λ f. behind_faces m v s p d f) in
-    let behind_plan : ModeName → Mode → Source → Plan → Option Choice = λ m v s p. read_or 0 (number_within 0 64) (given.value names.Digits) >>= (λ d. behind_digits m v s p d) in
-    let behind_vector : ModeName → Source → Mode → Option Choice = λ m s v. read_plan given >>= (λ p. behind_plan m v s p) in
+    let behind_vector : ModeName → Source → Mode → Option Choice = λ m s v. read_plan given >>= (λ p. behind_plan given m v s p) in
     let behind_source : ModeName → Source → Option Choice = λ m s. read_mode m (given.value names.Vector) (given.value names.Mark) s >>= (λ v. behind_vector m s v) in
     let behind_format : ModeName → Format → Option Choice = λ m t.
     read_source (given.value names.Mesh) (given.value names.Problem) (given.value names.Generate) (given.value names.Seed) t >>= (λ s. behind_source m s) in
@@ -399,12 +471,8 @@ run_reading_tells given choice read no_batch =
     let t = then_some (behind_format m.0) (read_or formats.Ucd format_of (given.value names.Format)) choice m.2 in
     let s = then_some (behind_source m.0) (read_source (given.value names.Mesh) (given.value names.Problem) (given.value names.Generate) (given.value names.Seed) t.0) choice t.2 in
     let v = then_some (behind_vector m.0 s.0) (read_mode m.0 (given.value names.Vector) (given.value names.Mark) s.0) choice s.2 in
-    let p = then_some (behind_plan m.0 v.0 s.0) (read_plan given) choice v.2 in
-    let d = then_some (behind_digits m.0 v.0 s.0 p.0) (read_or 0 (number_within 0 64) (given.value names.Digits)) choice p.2 in
-    let f = then_some (behind_faces m.0 v.0 s.0 p.0 d.0) (read_or faces.None faces_of (given.value names.Faces)) choice d.2 in
-    let u = then_some (behind_subdomain m.0 v.0 s.0 p.0 d.0 f.0) (read_subdomain (given.value names.Subdomain) (given.value names.Ghost) (given.stands switches.GhostCells)) choice f.2 in
-    let o = then_some (λ o. Some (put_together v.0 s.0 p.0 d.0 f.0 u.0 o)) (read_output (given.value names.Matrix) (given.value names.Rhs) (given.stands switches.Summary) (has_sums m.0)) choice u.2 in
-    chosen_from given choice m.0 t.0 s.0 v.0 p.0 d.0 f.0 u.0 o.0 m.1 t.1 s.1 v.1 p.1 d.1 f.1 u.1 o.1 (injected (put_together v.0 s.0 p.0 d.0 f.0 u.0 o.0) choice o.2) no_batch
+    let p = then_some (behind_plan given m.0 v.0 s.0) (read_plan given) choice v.2 in
+    left_tells given choice m.0 t.0 s.0 v.0 p.0 m.1 t.1 s.1 v.1 p.1 p.2 no_batch
 
 pub reading_tells : (given : Given) (choice : Choice) → reading given ≡ Some choice → IsChosen given choice
 unfolding reading

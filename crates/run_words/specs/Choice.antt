@@ -42,6 +42,14 @@ vector_in (of_system mode) = None
 vector_in of_mesh = None
 vector_in (of_vector name task) = Some name
 
+-- the greatest degree that a mode has: what is marked is marked by the jumps of degree 1
+abbrev pub greatest_degree : Mode → ℕ
+greatest_degree (of_system mode) = 2
+greatest_degree of_mesh = 2
+greatest_degree (of_vector name tasks.Product) = 2
+greatest_degree (of_vector name (tasks.Marks n)) = 1
+greatest_degree (of_vector name (tasks.Adapt n)) = 1
+
 -- what is assembled: the mesh under a name, in a format, with the problem under another name, if any, or what is
 -- generated for n cells in a row and a seed
 pub data Source : Type 0 where
@@ -68,6 +76,7 @@ pub record Choice : Type 0 where
   pub source : Source
   pub plan : Plan
   pub digits : ℕ
+  pub degree : ℕ
   pub faces : Faces
   pub subdomain : Option Subdomain
   pub output : Output
@@ -97,6 +106,7 @@ seen options = record {
   source = seen_source options.source;
   plan = options.plan;
   digits = options.digits;
+  degree = options.degree;
   faces = options.faces;
   subdomain = options.subdomain;
   output = seen_output options.output;
@@ -158,6 +168,9 @@ mode_in given = mode_from (mode_name_in given) (given.value names.Vector) (given
 abbrev pub format_in : Given → Format
 format_in given = named_or formats.Ucd format_of (given.value names.Format)
 
+abbrev pub degree_in : Given → ℕ
+degree_in given = number_or 1 (given.value names.Degree)
+
 -- what is asked for, with the defaults of the options that do not stand
 abbrev pub chosen : Given → Choice
 chosen given = record {
@@ -165,6 +178,7 @@ chosen given = record {
   source = source_of (given.value names.Mesh) (given.value names.Problem) (given.value names.Generate) (given.value names.Seed) (format_in given);
   plan = plan_of given;
   digits = number_or 0 (given.value names.Digits);
+  degree = degree_in given;
   faces = named_or faces.None faces_of (given.value names.Faces);
   subdomain = subdomain_of (given.value names.Subdomain) (given.value names.Ghost) (given.stands switches.GhostCells);
   output = output_of (given.value names.Matrix) (given.value names.Rhs) (given.stands switches.Summary);

@@ -16,6 +16,7 @@ is_job_option names.Problem = true
 is_job_option names.Format = true
 is_job_option names.Digits = true
 is_job_option names.Faces = true
+is_job_option names.Degree = true
 is_job_option _ = false
 
 -- the modes that a job may have

@@ -24,6 +24,7 @@ spelled names.Ghost = codes "--ghost"
 spelled names.Vector = codes "--vector"
 spelled names.Mark = codes "--mark"
 spelled names.Batch = codes "--batch"
+spelled names.Degree = codes "--degree"
 
 -- the place of an option among all of them
 abbrev pub place_of : Name → ℕ
@@ -46,10 +47,11 @@ place_of names.Ghost = 15
 place_of names.Vector = 16
 place_of names.Mark = 17
 place_of names.Batch = 18
+place_of names.Degree = 19
 
 -- two options are one exactly where their places are equal
 abbrev pub same_name : Name → Name → Bool
 same_name name other = nat_eq (place_of name) (place_of other)
 
 abbrev pub all_names : List Name
-all_names = names.Mode ∷ names.Mesh ∷ names.Problem ∷ names.Workers ∷ names.Queue ∷ names.Chunk ∷ names.Scratch ∷ names.Digits ∷ names.Faces ∷ names.Matrix ∷ names.Rhs ∷ names.Generate ∷ names.Seed ∷ names.Format ∷ names.Subdomain ∷ names.Ghost ∷ names.Vector ∷ names.Mark ∷ names.Batch ∷ []
+all_names = names.Mode ∷ names.Mesh ∷ names.Problem ∷ names.Workers ∷ names.Queue ∷ names.Chunk ∷ names.Scratch ∷ names.Digits ∷ names.Faces ∷ names.Matrix ∷ names.Rhs ∷ names.Generate ∷ names.Seed ∷ names.Format ∷ names.Subdomain ∷ names.Ghost ∷ names.Vector ∷ names.Mark ∷ names.Batch ∷ names.Degree ∷ []

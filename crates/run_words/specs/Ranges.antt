@@ -1,7 +1,7 @@
 -- The ranges of what the words ask for.
 use Rattle.std.specs.Prelude.{◌<◌, ◌≤◌}
 use Rattle.run_words.specs.declared.options.Plan.{Plan}
-use Rattle.run_words.specs.Choice.{Source, texts, generated, Choice}
+use Rattle.run_words.specs.Choice.{greatest_degree, Source, texts, generated, Choice}
 
 -- a grid has 1 to 512 cells in a row
 abbrev pub IsOfSize : Source → Type 0
@@ -19,3 +19,4 @@ pub record IsWithinRanges (choice : Choice) : Type 0 where
   pub source : IsOfSize choice.source
   pub plan : IsPlan choice.plan
   pub digits : choice.digits ≤ 64
+  pub degree : (0 < choice.degree) × (choice.degree ≤ greatest_degree choice.mode)

@@ -17,7 +17,7 @@ use Rattle.run_words.specs.declared.options.Subdomain.{Subdomain}
 use Rattle.run_words.specs.declared.switch.Switch.TheVariants as switches
 use Rattle.run_words.specs.Settings.{Given}
 use Rattle.run_words.specs.Values.{is_name, is_number, is_number_within, mode_of, format_of, faces_of}
-use Rattle.run_words.specs.Choice.{Mode, of_system, of_mesh, of_vector, Source, texts, generated, Destination, standard, named, Output, summary, both, destination_of, Choice}
+use Rattle.run_words.specs.Choice.{Mode, of_system, of_mesh, of_vector, greatest_degree, Source, texts, generated, Destination, standard, named, Output, summary, both, destination_of, Choice}
 use Rattle.run_words.specs.Words.{has_sums, is_standard}
 
 abbrev pub ◌>>=◌ : {X Y : Type 0} → Option X → (X → Option Y) → Option Y
@@ -108,10 +108,11 @@ run_reading given = do
   mode ← read_mode name (given.value names.Vector) (given.value names.Mark) source
   plan ← read_plan given
   digits ← read_or 0 (number_within 0 64) (given.value names.Digits)
+  degree ← read_or 1 (number_within 1 (greatest_degree mode)) (given.value names.Degree)
   faces ← read_or faces.None faces_of (given.value names.Faces)
   subdomain ← read_subdomain (given.value names.Subdomain) (given.value names.Ghost) (given.stands switches.GhostCells)
   output ← read_output (given.value names.Matrix) (given.value names.Rhs) (given.stands switches.Summary) (has_sums name)
-  Some (record { mode = mode; source = source; plan = plan; digits = digits; faces = faces; subdomain = subdomain; output = output })
+  Some (record { mode = mode; source = source; plan = plan; digits = digits; degree = degree; faces = faces; subdomain = subdomain; output = output })
 
 -- no run is asked for beside a batch
 unfoldable pub reading : Given → Option Choice

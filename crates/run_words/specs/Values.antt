@@ -84,3 +84,4 @@ is_in_set names.Ghost value = is_some (faces_of value)
 is_in_set names.Vector value = is_name value
 is_in_set names.Mark value = is_number_within 1 1048576 value
 is_in_set names.Batch value = is_name value
+is_in_set names.Degree value = is_number_within 1 2 value

@@ -1,5 +1,5 @@
 -- The words of the command line.
-use Rattle.std.specs.Prelude.{◌≡◌, ℕ, List, ◌∷◌, ◌++◌, Bool, true, false, ◌&&◌, ◌||◌, not, is_some, codes, ◌⊎◌, [], Some, None}
+use Rattle.std.specs.Prelude.{◌≡◌, ◌≤◌, ℕ, List, ◌∷◌, ◌++◌, Bool, true, false, ◌&&◌, ◌||◌, not, is_some, codes, ◌⊎◌, [], Some, None}
 use Rattle.std.specs.declared.option.Option.{Option}
 use Rattle.std.specs.List.{flat_map}
 use Rattle.std.specs.Str.{bytes_eq}
@@ -13,7 +13,7 @@ use Rattle.run_words.specs.declared.options.Format.{Format}
 use Rattle.run_words.specs.declared.options.Format.TheVariants as formats
 use Rattle.run_words.specs.Settings.{Setting, words_of, StandsOnce, Given, given_by}
 use Rattle.run_words.specs.Values.{is_in_set}
-use Rattle.run_words.specs.Choice.{Choice, mode_name_in, format_in, chosen}
+use Rattle.run_words.specs.Choice.{Choice, greatest_degree, mode_name_in, mode_in, degree_in, format_in, chosen}
 
 -- an option doesn't stand, or its value is in its set
 abbrev pub passes : (List ℕ → Bool) → Option (List ℕ) → Bool
@@ -102,6 +102,7 @@ pub record KeepsRules (given : Given) : Type 0 where
   pub source : SourceRules (given.value names.Mesh) (given.value names.Problem) (given.value names.Generate) (given.value names.Seed) (format_in given)
   pub output : OutputRules (given.value names.Matrix) (given.value names.Rhs) (given.stands switches.Summary) (has_sums (mode_name_in given))
   pub subdomain : SubdomainRule (given.value names.Subdomain) (given.value names.Ghost) (given.stands switches.GhostCells)
+  pub degree : degree_in given ≤ greatest_degree (mode_in given)
   pub vector : VectorRules (mode_name_in given) (given.value names.Vector) (given.value names.Mark) (given.value names.Mesh) (given.value names.Problem) (given.value names.Generate)
 
 -- the words ask for this: they are settings, no option stands twice, each value is in its set, the rules between

@@ -2,7 +2,7 @@ ghost use Rattle.std.specs.Prelude.{◌≡◌, length};
 ghost use Rattle.std.specs.Option.{option_map, option_copied};
 ghost use Rattle.run_words.specs.Held.{seen_settings};
 ghost use Rattle.run_words.specs.Values.{mode_of, format_of, faces_of};
-ghost use Rattle.run_words.specs.Choice.{standard, seen, seen_mode, seen_source, seen_destination, seen_output, destination_of};
+ghost use Rattle.run_words.specs.Choice.{standard, seen, seen_mode, seen_source, seen_destination, seen_output, destination_of, greatest_degree};
 ghost use Rattle.run_words.specs.Reading.{reading, run_reading, read_or, read_mode, read_vector, read_plan, read_source, read_subdomain, read_destination, read_output, is_apart, two_texts, two_outputs, is_same_name};
 
 use crate::mode::{ModeName, has_sums, mode_of};
@@ -49,6 +49,7 @@ fn run_options_of<'a>(settings: &Settings<'a>) -> Option<Options<'a>>
     )?;
     let plan = plan_of(settings)?;
     let digits = number_or(0, 0, 64, settings.value(Name::Digits))?;
+    let degree = number_or(1, 1, greatest_degree(mode), settings.value(Name::Degree))?;
     let faces = faces_or_none(settings.value(Name::Faces))?;
     let subdomain = subdomain_of(
         settings.value(Name::Subdomain),
@@ -66,6 +67,7 @@ fn run_options_of<'a>(settings: &Settings<'a>) -> Option<Options<'a>>
         source,
         plan,
         digits,
+        degree,
         faces,
         subdomain,
         output,
@@ -110,6 +112,19 @@ fn mode_for<'a>(
             Some(Mode::Vector { name, task })
         }
         _ => None,
+    }
+}
+
+// The greatest degree of a mode. Jumps, by which cells are marked, are those of degree 1.
+fn greatest_degree(mode: Mode) -> u32
+    ensures { result ≡ greatest_degree (seen_mode mode.entry) }
+{
+    match mode {
+        Mode::System(_) | Mode::Mesh => 2,
+        Mode::Vector { name: _, task } => match task {
+            VectorTask::Product => 2,
+            VectorTask::Marks(_) | VectorTask::Adapt(_) => 1,
+        },
     }
 }
 

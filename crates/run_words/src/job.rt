@@ -11,7 +11,7 @@ use crate::settings::Settings;
 use crate::{Mode, Options, Source, SystemMode};
 
 /// Reads the words of a job of a batch, as [`crate::read_words`] reads those of a run. A job has no other options than
-/// `--mode`, `--mesh`, `--problem`, `--format`, `--digits`, `--faces` and `--summary`; its mode is `serial`, `pattern` or
+/// `--mode`, `--mesh`, `--problem`, `--format`, `--digits`, `--faces`, `--degree` and `--summary`; its mode is `serial`, `pattern` or
 /// `colors`, and no name is `-`. There is no answer exactly where the words ask for no such job.
 pub fn read_job(words: &[String]) -> Option<Options<'_>>
     ensures some { IfSome result (λ options. AskForJob (map string_bytes words.now) (seen options)) }
@@ -61,7 +61,7 @@ fn is_job_option(name: Name) -> bool
 {
     match name {
         Name::Mode | Name::Mesh | Name::Problem => true,
-        Name::Format | Name::Digits | Name::Faces => true,
+        Name::Format | Name::Digits | Name::Faces | Name::Degree => true,
         _ => false,
     }
 }

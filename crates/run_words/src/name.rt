@@ -24,10 +24,11 @@ pub(crate) enum Name {
     Vector,
     Mark,
     Batch,
+    Degree,
 }
 
 impl Name {
-    pub(crate) const COUNT: usize = 19;
+    pub(crate) const COUNT: usize = 20;
 
     #[tactic(auto, unfolding(crate::specs::Names::spelled))]
     fn spelled(self) -> &'static str
@@ -53,6 +54,7 @@ impl Name {
             Name::Vector => "--vector",
             Name::Mark => "--mark",
             Name::Batch => "--batch",
+            Name::Degree => "--degree",
         }
     }
 
@@ -64,7 +66,7 @@ impl Name {
     }
 }
 
-pub(crate) const NAMES: [Name; 19] = [
+pub(crate) const NAMES: [Name; 20] = [
     Name::Mode,
     Name::Mesh,
     Name::Problem,
@@ -84,6 +86,7 @@ pub(crate) const NAMES: [Name; 19] = [
     Name::Vector,
     Name::Mark,
     Name::Batch,
+    Name::Degree,
 ];
 
 /// The option that a word spells.

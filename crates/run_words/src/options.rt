@@ -111,14 +111,15 @@ pub enum Output<'a> {
     },
 }
 
-/// What the words ask for. `digits` is how many leading binary digits each sum keeps; 0 keeps all. Where no
-/// subdomain is named, the run is over all cells.
+/// What the words ask for. `digits` is how many leading binary digits each sum keeps; 0 keeps all. `degree` is that of the
+/// shape functions, 1 or 2, and 1 where cells are marked. Where no subdomain is named, the run is over all cells.
 #[derive(Clone, Copy, Debug, PartialEq, Eq)]
 pub struct Options<'a> {
     pub mode: Mode<'a>,
     pub source: Source<'a>,
     pub plan: Plan,
     pub digits: u32,
+    pub degree: u32,
     pub faces: Faces,
     pub subdomain: Option<Subdomain>,
     pub output: Output<'a>,

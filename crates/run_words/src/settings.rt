@@ -9,7 +9,7 @@ use crate::switch::Switch;
 pub(crate) struct Settings<'a> {
     values: [Option<&'a str>; Name::COUNT],
     switches: [bool; Switch::COUNT],
-    ghost full: { length values ≡ 19 },
+    ghost full: { length values ≡ 20 },
     ghost both: { length switches ≡ 2 },
 }
 

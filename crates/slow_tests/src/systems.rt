@@ -4,7 +4,7 @@ use mesh_loop::Setup;
 use mesh_visits::{Flags, Interior};
 use problem_read::read_problem;
 use std::thread::Threads;
-use system_setup::set_up;
+use system_setup::{Degree, Scheme, set_up};
 use ucd_read::read_ucd;
 
 /// The set-up of a drawn mesh of n cells in a row and in a column, under a problem of few lines.
@@ -31,14 +31,17 @@ pub(crate) fn drawn<R: Threads + Sync + AllocGlobal>(
         Ok(problem) => problem,
         Err(_) => return None,
     };
-    let flags = Flags {
-        cells: true,
-        boundary: true,
-        interior,
-        cells_after_faces: false,
-        own: None,
-        ghost_parts: Interior::None,
-        ghost_cells: false,
+    let scheme = Scheme {
+        degree: Degree::One,
+        flags: Flags {
+            cells: true,
+            boundary: true,
+            interior,
+            cells_after_faces: false,
+            own: None,
+            ghost_parts: Interior::None,
+            ghost_cells: false,
+        },
     };
-    set_up(rt, alloc, parts, problem, flags).ok()
+    set_up(rt, alloc, parts, problem, scheme).ok()
 }

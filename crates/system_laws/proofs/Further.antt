@@ -11,7 +11,7 @@ use Rattle.constrained_mesh.specs.Steps.{Outcome, refused, refined, RefinesBy}
 use Rattle.diagnostics.specs.declared.refusal.Refusal.{Refusal}
 use Rattle.diagnostics.specs.Stages.{stops, goes}
 use Rattle.system_setup.specs.Endings.{of_mesh, of_refining}
-use Rattle.system_setup.specs.SetUp.{CoarseOf, RefinedFrom, ForestOf, RefinedFurther}
+use Rattle.system_setup.specs.SetUp.{CoarseOf, RefinedFrom}
 use Rattle.system_laws.specs.Same.{IsSameForest, AgreeOnForests}
 use Rattle.system_laws.specs.Laws.{AreQuadrilaterals, HasOneForest, HasOneFinerForest, HasOneSystemOn, CanBeRefined, HasAForestFor, HasAForest}
 use Rattle.system_laws.proofs.Coarse.{coarse_good}
@@ -58,7 +58,7 @@ one_finer a b s cells (Err r) (Err q) w v =
     one_refusal (of_refining w.0) (of_refining v.0) r q (ap of_refining f) w.2 v.2
 
 pub one_system_on : HasOneSystemOn
-one_system_on a b s flags ids problem x y w v = one_on a b s flags ids problem x y w v
+one_system_on a b s scheme ids problem x y w v = one_on a b s scheme ids problem x y w v
 
 -- a mesh with numbers of nodes can be refined
 can_be_refined : (problem : ProblemParts) (forest : RefinedMesh) (cells : List ℕ) → IsGrown forest → IsNodeNumbered forest → CanBeRefined problem forest cells
@@ -67,7 +67,7 @@ can_be_refined problem forest cells g s = elim (step_ends forest cells s) [
   | inr done ↦ record {
     outcome = Ok done.0;
     is = (done.1, done.2);
-    goes_on = λ flags ids. some_on flags ids problem done.0 (step_grown forest cells done.0 done.1 g done.2);
+    goes_on = λ scheme ids. some_on scheme ids problem done.0 (step_grown forest cells done.0 done.1 g done.2);
   }
 ]
 

@@ -1,3 +1,4 @@
+pub mod Degrees
 pub mod Forests
 pub mod Visits
 pub mod OneTable

@@ -7,14 +7,14 @@ use Rattle.std.specs.List.{flat_map, filter}
 use Rattle.std.proofs.Math.Path.{fun_ext}
 use Rattle.std.proofs.lemmas.List.{ext_get_or}
 use Rattle.fem_fixed.specs.Lists.{contains, different, rank_of, rank_among}
-use Rattle.corner_names.specs.Names.{Name, node, middle_of}
+use Rattle.corner_names.specs.Names.{Name, node, centre, middle_of}
 use Rattle.corner_names.specs.Cells.{vertex, mid, face_start, face_end}
 use Rattle.hanging_refine.specs.Coarse.{corner_at}
 use Rattle.hanging_refine.specs.Refined.{RefinedMesh, cell_in}
 use Rattle.hanging_refine.specs.Numbered.{corner_name}
 use Rattle.hanging_refine.specs.Sides.{half_end}
 use Rattle.affine_constraints.specs.Lines.{AffineLine, Lines, lines_in}
-use Rattle.dof_numbers.specs.Dofs.{same_name, cell_names, name_list, name_dof, middle_name, corner_dof, middle_dof}
+use Rattle.dof_numbers.specs.Dofs.{same_name, cell_names, name_list, name_dof, middle_name, centre_name, corner_dof, middle_dof, centre_dof}
 use Rattle.dof_numbers.specs.Hanging.{IsHangingName, IsHanging, hung_name, half_line, quarter_line, hung_line}
 use Rattle.problem_read.specs.Entries.{ProblemParts}
 use Rattle.problem_read.specs.LookUps.{dirichlet_on}
@@ -66,9 +66,15 @@ pub same_corner_dof : (degree : ℕ) (a b : RefinedMesh) → IsSameForest a b �
 unfolding DofOf NameOf
 same_corner_dof degree a b s = ap₂ {C = DofOf} (λ (dof : Name → ℕ) (name : NameOf) cell v. dof (name cell v)) (same_name_dof degree a b s) (same_corner_name a b s)
 
-same_middle_dof : (a b : RefinedMesh) → IsSameForest a b → middle_dof a ≡ middle_dof b
+pub same_middle_dof : (a b : RefinedMesh) → IsSameForest a b → middle_dof a ≡ middle_dof b
 unfolding DofOf NameOf
 same_middle_dof a b s = ap₂ {C = DofOf} (λ (dof : Name → ℕ) (name : NameOf) cell f. dof (name cell f)) (same_name_dof 2 a b s) (same_middle_name a b s)
+
+same_centre_name : (a b : RefinedMesh) → IsSameForest a b → centre_name a ≡ centre_name b
+same_centre_name a b s = by_cells (λ m cs cell. centre (cell_in cs cell)) a b s
+
+pub same_centre_dof : (a b : RefinedMesh) → IsSameForest a b → centre_dof a ≡ centre_dof b
+same_centre_dof a b s = ap₂ {C = ℕ → ℕ} (λ (dof : Name → ℕ) (name : ℕ → Name) cell. dof (name cell)) (same_name_dof 2 a b s) (same_centre_name a b s)
 
 pub same_size : (degree : ℕ) (a b : RefinedMesh) → IsSameForest a b → dof_count degree a ≡ dof_count degree b
 same_size degree a b s = ap (different same_name) (same_names degree a b s)
@@ -144,18 +150,18 @@ same_dof_at : (degree : ℕ) (a b : RefinedMesh) → IsSameForest a b → (place
 same_dof_at degree a b s None = refl
 same_dof_at degree a b s (Some place) = ap (λ list. rank_among same_name list (node place)) (same_names degree a b s)
 
-same_node_dofs : (a b : RefinedMesh) → IsSameForest a b → (ids : List ℕ) → dof_of_id (nodes_of ids a) ≡ dof_of_id (nodes_of ids b)
+same_node_dofs : (degree : ℕ) (a b : RefinedMesh) → IsSameForest a b → (ids : List ℕ) → dof_of_id (nodes_of degree ids a) ≡ dof_of_id (nodes_of degree ids b)
 unfolding dof_of_id
-same_node_dofs a b s ids = fun_ext (λ id. same_dof_at 1 a b s (place_of ids id))
+same_node_dofs degree a b s ids = fun_ext (λ id. same_dof_at degree a b s (place_of ids id))
 
-same_constrained : (a b : RefinedMesh) → IsSameForest a b → (ids : List ℕ) (problem : ProblemParts) (answer : Answer) → IsConstrained (nodes_of ids a) problem answer → IsConstrained (nodes_of ids b) problem answer
-same_constrained a b s ids problem answer w =
+same_constrained : (degree : ℕ) (a b : RefinedMesh) → IsSameForest a b → (ids : List ℕ) (problem : ProblemParts) (answer : Answer) → IsConstrained (nodes_of degree ids a) problem answer → IsConstrained (nodes_of degree ids b) problem answer
+same_constrained degree a b s ids problem answer w =
     let P : (ℕ → Option ℕ) → Type 0 = λ dof_of. ClosesOrFails (with_ties dof_of w.lines problem.ties) answer in
-    record { lines = w.lines; of_mesh = same_mesh_lines 1 a b s problem w.lines w.of_mesh; outcome = subst P (same_node_dofs a b s ids) w.outcome }
+    record { lines = w.lines; of_mesh = same_mesh_lines degree a b s problem w.lines w.of_mesh; outcome = subst P (same_node_dofs degree a b s ids) w.outcome }
 
 -- one answer over both meshes
-one_answer : (a b : RefinedMesh) → IsSameForest a b → (ids : List ℕ) (problem : ProblemParts) (x y : Answer) → IsConstrained (nodes_of ids a) problem x → IsConstrained (nodes_of ids b) problem y → x ≡ y
-one_answer a b s ids problem x y w v = same_answer (nodes_of ids b) problem x y (same_constrained a b s ids problem x w) v
+one_answer : (degree : ℕ) (a b : RefinedMesh) → IsSameForest a b → (ids : List ℕ) (problem : ProblemParts) (x y : Answer) → IsConstrained (nodes_of degree ids a) problem x → IsConstrained (nodes_of degree ids b) problem y → x ≡ y
+one_answer degree a b s ids problem x y w v = same_answer (nodes_of degree ids b) problem x y (same_constrained degree a b s ids problem x w) v
 
 same_ok : (x y : Lines) → (let r : Answer = Ok x in r) ≡ Ok y → x ≡ y
 same_ok x y e = cc
@@ -170,11 +176,11 @@ same_told : (x y : ConstraintFault) (r q : Refusal) → of_constraints x ≡ Ref
 same_told x y r q e f s = let t : Refused r ≡ Refused q = sym e ∙ ap of_constraints s ∙ f in cc
 
 -- one table of closed lines, or one refusal, over both meshes
-pub same_lines : (a b : RefinedMesh) → IsSameForest a b → (ids : List ℕ) (problem : ProblemParts) (x y : Result (List (Option AffineLine)) Refusal) → LinesFor ids problem a x → LinesFor ids problem b y → x ≡ y
-same_lines a b s ids problem (Ok t) (Ok u) w v =
-    let e : lines_in t ≡ lines_in u = same_ok (lines_in t) (lines_in u) (one_answer a b s ids problem (Ok (lines_in t)) (Ok (lines_in u)) w.1 v.1) in
-    ap Ok (ext_get_or None t u (w.0 ∙ same_size 1 a b s ∙ sym v.0) (λ dof h. ap (λ lines. lines dof) e))
-same_lines a b s ids problem (Ok t) (Err q) w v = absurd (not_ok (lines_in t) v.0 (one_answer a b s ids problem (Ok (lines_in t)) (Err v.0) w.1 v.1))
-same_lines a b s ids problem (Err r) (Ok u) w v = absurd (not_ok (lines_in u) w.0 (sym (one_answer a b s ids problem (Err w.0) (Ok (lines_in u)) w.1 v.1)))
-same_lines a b s ids problem (Err r) (Err q) w v =
-    ap Err (same_told w.0 v.0 r q w.2 v.2 (same_err w.0 v.0 (one_answer a b s ids problem (Err w.0) (Err v.0) w.1 v.1)))
+pub same_lines : (degree : ℕ) (a b : RefinedMesh) → IsSameForest a b → (ids : List ℕ) (problem : ProblemParts) (x y : Result (List (Option AffineLine)) Refusal) → LinesFor degree ids problem a x → LinesFor degree ids problem b y → x ≡ y
+same_lines degree a b s ids problem (Ok t) (Ok u) w v =
+    let e : lines_in t ≡ lines_in u = same_ok (lines_in t) (lines_in u) (one_answer degree a b s ids problem (Ok (lines_in t)) (Ok (lines_in u)) w.1 v.1) in
+    ap Ok (ext_get_or None t u (w.0 ∙ same_size degree a b s ∙ sym v.0) (λ dof h. ap (λ lines. lines dof) e))
+same_lines degree a b s ids problem (Ok t) (Err q) w v = absurd (not_ok (lines_in t) v.0 (one_answer degree a b s ids problem (Ok (lines_in t)) (Err v.0) w.1 v.1))
+same_lines degree a b s ids problem (Err r) (Ok u) w v = absurd (not_ok (lines_in u) w.0 (sym (one_answer degree a b s ids problem (Err w.0) (Ok (lines_in u)) w.1 v.1)))
+same_lines degree a b s ids problem (Err r) (Err q) w v =
+    ap Err (same_told w.0 v.0 r q w.2 v.2 (same_err w.0 v.0 (one_answer degree a b s ids problem (Err w.0) (Err v.0) w.1 v.1)))

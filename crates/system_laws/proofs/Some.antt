@@ -11,7 +11,6 @@ use Rattle.hanging_refine.specs.Grown.{IsGrown}
 use Rattle.hanging_refine.specs.Refined.{RefinedMesh, unrefined}
 use Rattle.affine_constraints.specs.Lines.{AffineLine}
 use Rattle.problem_read.specs.Entries.{ProblemParts}
-use Rattle.mesh_visits.specs.declared.flags.Flags.{Flags}
 use Rattle.sparsity.specs.Coupled.{pairs_of}
 use Rattle.mesh_loop.specs.Setup.{MeshProblem, coupled_dofs}
 use Rattle.constrained_mesh.specs.Steps.{Outcome, RefinesBy}
@@ -19,29 +18,32 @@ use Rattle.diagnostics.specs.declared.refusal.Refusal.{Refusal}
 use Rattle.diagnostics.specs.declared.refusal.Refusal.TheVariants.{Limit}
 use Rattle.diagnostics.specs.declared.kinds.LimitKind.TheVariants.{Entries}
 use Rattle.diagnostics.specs.declared.ending.Ending.TheVariants.{Refused}
+use Rattle.system_setup.specs.declared.scheme.Scheme.{Scheme}
 use Rattle.system_setup.specs.Endings.{of_mesh}
+use Rattle.system_setup.specs.Scheme.{number_of}
 use Rattle.diagnostics.specs.Stages.{Then, stops, goes}
 use Rattle.system_setup.specs.SetUp.{CoarseOf, RefinedFrom, LinesFor, IsMadeOf, PatternedFor, SetUpOn}
 use Rattle.system_laws.specs.Laws.{HasASetUp}
+use Rattle.system_laws.proofs.Degrees.{is_degree}
 use Rattle.system_laws.proofs.Coarse.{coarse_good, never_memory}
 use Rattle.system_laws.proofs.Grown.{start_grown}
 use Rattle.system_laws.proofs.Refining.{steps_end, steps_grown, steps_told}
-use Rattle.system_laws.proofs.Tables.{numbering_of, of_degree_one, numbering_is, some_lines}
+use Rattle.system_laws.proofs.Tables.{numbering_of, of_degree, numbering_is, some_lines}
 
-set_up_of : Flags → ProblemParts → RefinedMesh → List (Option AffineLine) → MeshProblem
-set_up_of flags problem forest table = record { given = record { forest = forest; dofs = numbering_of forest; problem = problem }; closed = table; flags = flags }
+set_up_of : Scheme → ProblemParts → RefinedMesh → List (Option AffineLine) → MeshProblem
+set_up_of scheme problem forest table = record { given = record { forest = forest; dofs = numbering_of (number_of scheme.degree) forest; problem = problem }; closed = table; flags = scheme.flags }
 
-is_made : (flags : Flags) (problem : ProblemParts) (forest : RefinedMesh) (table : List (Option AffineLine)) → IsMadeOf forest problem table flags (set_up_of flags problem forest table)
+is_made : (scheme : Scheme) (problem : ProblemParts) (forest : RefinedMesh) (table : List (Option AffineLine)) → IsMadeOf scheme forest problem table (set_up_of scheme problem forest table)
 unfolding set_up_of
-is_made flags problem forest table = record { forest_is = refl; problem_is = refl; degree = of_degree_one forest; numbered = numbering_is forest; lines_are = refl; flags_are = refl }
+is_made scheme problem forest table = record { forest_is = refl; problem_is = refl; degree_is = of_degree (number_of scheme.degree) forest; numbered = numbering_is (number_of scheme.degree) (is_degree scheme.degree) forest; lines_are = refl; flags_are = refl }
 
-some_pattern : (flags : Flags) (problem : ProblemParts) (forest : RefinedMesh) (table : List (Option AffineLine)) → (outcome : Result MeshProblem Refusal) × PatternedFor flags problem forest table outcome
-some_pattern flags problem forest table =
-    let s : MeshProblem = set_up_of flags problem forest table in
-    let R : Type 0 = (outcome : Result MeshProblem Refusal) × PatternedFor flags problem forest table outcome in
+some_pattern : (scheme : Scheme) (problem : ProblemParts) (forest : RefinedMesh) (table : List (Option AffineLine)) → (outcome : Result MeshProblem Refusal) × PatternedFor scheme problem forest table outcome
+some_pattern scheme problem forest table =
+    let s : MeshProblem = set_up_of scheme problem forest table in
+    let R : Type 0 = (outcome : Result MeshProblem Refusal) × PatternedFor scheme problem forest table outcome in
     ⊎_elim
-    (λ (h : 33554432 < pairs_of (coupled_dofs s)). let r : R = (Err (Limit Entries), (s, is_made flags problem forest table, h, refl)) in r)
-    (λ (h : pairs_of (coupled_dofs s) ≤ 33554432). let r : R = (Ok s, (is_made flags problem forest table, h)) in r)
+    (λ (h : 33554432 < pairs_of (coupled_dofs s)). let r : R = (Err (Limit Entries), (s, is_made scheme problem forest table, h, refl)) in r)
+    (λ (h : pairs_of (coupled_dofs s) ≤ 33554432). let r : R = (Ok s, (is_made scheme problem forest table, h)) in r)
     (cases_lt 33554432 (pairs_of (coupled_dofs s)))
 
 -- what two steps of work give together
@@ -50,10 +52,10 @@ both : {X Y : Type 0} (first : Result X Refusal → Type 0) (next : X → Result
 both first next (Ok value) w more = let t = more value w in (t.0, goes value w t.1)
 both first next (Err refusal) w more = (Err refusal, stops refusal w refl)
 
-pub some_on : (flags : Flags) (ids : List ℕ) (problem : ProblemParts) (forest : RefinedMesh) → IsGrown forest → (outcome : Result MeshProblem Refusal) × SetUpOn flags ids problem forest outcome
-some_on flags ids problem forest g =
-    let t = some_lines ids problem forest g in
-    both (LinesFor ids problem forest) (PatternedFor flags problem forest) t.0 t.1 (λ table w. some_pattern flags problem forest table)
+pub some_on : (scheme : Scheme) (ids : List ℕ) (problem : ProblemParts) (forest : RefinedMesh) → IsGrown forest → (outcome : Result MeshProblem Refusal) × SetUpOn scheme ids problem forest outcome
+some_on scheme ids problem forest g =
+    let t = some_lines (number_of scheme.degree) (is_degree scheme.degree) ids problem forest g in
+    both (LinesFor (number_of scheme.degree) ids problem forest) (PatternedFor scheme problem forest) t.0 t.1 (λ table w. some_pattern scheme problem forest table)
 
 refined_from : (mesh : CoarseMesh) (problem : ProblemParts) (outcome : Outcome) → RefinesBy problem.steps (unrefined mesh) outcome → (o : Result RefinedMesh Refusal) × RefinedFrom mesh problem o
 refined_from mesh problem (Ok forest) w = (Ok forest, w)
@@ -75,10 +77,10 @@ coarse_of parts (Err fault) e =
     let r = refusal_by fault (λ n. never_memory parts.points parts.quads parts.lines (subst P n e)) in (Err r.0, (fault, e, r.1))
 
 pub some : HasASetUp
-some flags parts problem four =
+some scheme parts problem four =
     let c = coarse_of parts (mesh_of parts.points parts.quads parts.lines) refl in
-    both (CoarseOf parts.points parts.quads parts.lines) (λ mesh. Then (RefinedFrom mesh problem) (SetUpOn flags parts.ids problem)) c.0 c.1 (λ mesh m.
+    both (CoarseOf parts.points parts.quads parts.lines) (λ mesh. Then (RefinedFrom mesh problem) (SetUpOn scheme parts.ids problem)) c.0 c.1 (λ mesh m.
     let s = steps_end problem.steps mesh in
     let f = refined_from mesh problem s.0 s.1 in
-    both (RefinedFrom mesh problem) (SetUpOn flags parts.ids problem) f.0 f.1 (λ forest w.
-    some_on flags parts.ids problem forest (steps_grown problem.steps (unrefined mesh) forest (start_grown mesh (coarse_good parts.points parts.quads parts.lines mesh four m)) w)))
+    both (RefinedFrom mesh problem) (SetUpOn scheme parts.ids problem) f.0 f.1 (λ forest w.
+    some_on scheme parts.ids problem forest (steps_grown problem.steps (unrefined mesh) forest (start_grown mesh (coarse_good parts.points parts.quads parts.lines mesh four m)) w)))

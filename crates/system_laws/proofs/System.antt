@@ -1,6 +1,6 @@
 -- Set-ups over refined meshes that are the same up to the numbers of corners have one system.
 use Rattle.std.proofs.Common.{◌≡◌, ◌∙◌, ap, ap₂, ℕ, List, [], ◌∷◌, ◌++◌, map, slice_index, slice_index_or}
-use Rattle.std.specs.Prelude.{filter, Ok}
+use Rattle.std.specs.Prelude.{◌+◌, ◌==◌, cond, filter, Ok}
 use Rattle.std.specs.declared.option.Option.{Option}
 use Rattle.std.specs.declared.result.Result.{Result}
 use Rattle.std.specs.List.{flat_map, range_with_len}
@@ -17,16 +17,15 @@ use Rattle.problem_read.specs.LookUps.{diffusion_on, source_on, robin_on, penalt
 use Rattle.fixed_q1.specs.declared.fault.LocalFault.{LocalFault}
 use Rattle.fixed_q1.specs.declared.places.Part.{Part}
 use Rattle.fixed_q1.specs.declared.places.Part.TheVariants.{Whole, Half0, Half1}
-use Rattle.fixed_q1.specs.CellForm.{cell_form}
-use Rattle.fixed_q1.specs.JumpForm.{jump_form}
 use Rattle.fixed_q1.specs.Places.{reference_place}
 use Rattle.fixed_q1.specs.LocalForm.{LocalForm}
+use Rattle.cell_blocks.specs.Forms.{cell_form, face_form, jump_form}
 use Rattle.cell_blocks.specs.LocalBlocks.{LocalBlock}
 use Rattle.mesh_visits.specs.declared.flags.Flags.{Flags}
 use Rattle.mesh_visits.specs.declared.visit.Visit.{Visit}
 use Rattle.mesh_visits.specs.declared.visit.Visit.TheVariants.{Cell as OnCell, Boundary as OnBoundary, Interior as OnPart}
 use Rattle.mesh_visits.specs.Runs.{subdomain_in, visits_of}
-use Rattle.cell_blocks.specs.Blocks.{Given, material_of, subdomains_of, visits_in, points_of, part_ends, face_form, visit_dofs, visit_form, with_dofs, block_of, all_blocks, blocks_of, cell_blocks}
+use Rattle.cell_blocks.specs.Blocks.{Given, material_of, subdomains_of, visits_in, points_of, part_ends, visit_dofs, visit_form, with_dofs, block_of, all_blocks, blocks_of, cell_blocks}
 use Rattle.block_sums.specs.Parts.{part_of_blocks}
 use Rattle.serial_sum.specs.Parts.{CellPart}
 use Rattle.sparsity.specs.Coupled.{has, rows_of}
@@ -36,9 +35,10 @@ use Rattle.system_laws.specs.Same.{IsSameForest, IsSameSystem}
 use Rattle.system_laws.proofs.Forests.{same_count, same_coarse, by_cells}
 use Rattle.system_laws.proofs.Visits.{same_visits}
 
--- the meshes are the same up to the numbers of corners, and so are the dofs of cells and the problem
+-- the meshes are the same up to the numbers of corners, and so are the degree and the dofs of cells, and the problem
 pub record IsSameGiven (g h : Given) : Type 0 where
   pub forest : IsSameForest g.forest h.forest
+  pub degree : g.dofs.degree ≡ h.dofs.degree
   pub dofs : g.dofs.cells ≡ h.dofs.cells
   pub problem : g.problem ≡ h.problem
 
@@ -51,7 +51,11 @@ same_points g h s = by_cells (λ m cs cell. cell_points m (cell_in cs cell)) g.f
 same_dofs : (g h : Given) → IsSameGiven g h → (cell : ℕ) (visit : Visit) → visit_dofs g cell visit ≡ visit_dofs h cell visit
 same_dofs g h s cell OnCell = ap (λ dofs. slice_index_or dofs cell []) s.dofs
 same_dofs g h s cell (OnBoundary face id) =
-    ap (λ dofs. slice_index (slice_index_or dofs cell []) (face_start face) ∷ slice_index (slice_index_or dofs cell []) (face_end face) ∷ []) s.dofs
+    ap₂
+    (λ (degree : ℕ) (dofs : List (List ℕ)).
+    (slice_index (slice_index_or dofs cell []) (face_start face) ∷ slice_index (slice_index_or dofs cell []) (face_end face) ∷ [])
+    ++ cond (degree == 2) (slice_index (slice_index_or dofs cell []) (4 + face) ∷ []) [])
+    s.degree s.dofs
 same_dofs g h s cell (OnPart face other other_face here there) = ap (λ dofs. slice_index_or dofs cell [] ++ slice_index_or dofs other []) s.dofs
 
 ends_by : (ℕ → List Point) → ℕ → ℕ → List Point
@@ -66,16 +70,17 @@ same_ends g h s cell face other other_face Half1 = ap (λ points. ends_by points
 same_form : (g h : Given) → IsSameGiven g h → (cell : ℕ) (visit : Visit) → visit_form g cell visit ≡ visit_form h cell visit
 unfolding ends_by
 same_form g h s cell OnCell =
-    let F : List Point → ProblemParts → ℕ → Result LocalForm LocalFault = λ points problem material. cell_form points (diffusion_on problem material) (source_on problem material) in
-    ap (λ points. F (points cell) g.problem (material_of g cell)) (same_points g h s) ∙ ap₂ (F (points_of h cell)) s.problem (same_material g h s cell)
+    let F : ℕ → List Point → ProblemParts → ℕ → Result LocalForm LocalFault = λ degree points problem material. cell_form degree points (diffusion_on problem material) (source_on problem material) in
+    ap₂ (λ (degree : ℕ) (points : ℕ → List Point). F degree (points cell) g.problem (material_of g cell)) s.degree (same_points g h s)
+    ∙ ap₂ (F h.dofs.degree (points_of h cell)) s.problem (same_material g h s cell)
 same_form g h s cell (OnBoundary face id) =
-    let F : (ℕ → List Point) → ProblemParts → Result LocalForm LocalFault = λ points problem. Ok (face_form (robin_on problem id) (ends_by points cell face)) in
-    ap₂ F (same_points g h s) s.problem
+    let F : ℕ → (ℕ → List Point) → ProblemParts → Result LocalForm LocalFault = λ degree points problem. Ok (face_form degree (robin_on problem id) (ends_by points cell face)) in
+    ap (λ degree. F degree (points_of g) g.problem) s.degree ∙ ap₂ (F h.dofs.degree) (same_points g h s) s.problem
 same_form g h s cell (OnPart face other other_face here there) =
-    let F : (ℕ → List Point) → List Point → ProblemParts → Result LocalForm LocalFault =
-    λ points ends problem. jump_form (points cell) (reference_place face here) (points other) (reference_place other_face there) ends (penalty_in problem) in
-    ap (λ points. F points (part_ends g cell face other other_face here) g.problem) (same_points g h s)
-    ∙ ap₂ (F (points_of h)) (same_ends g h s cell face other other_face here) s.problem
+    let F : ℕ → (ℕ → List Point) → List Point → ProblemParts → Result LocalForm LocalFault =
+    λ degree points ends problem. jump_form degree (points cell) (reference_place face here) (points other) (reference_place other_face there) ends (penalty_in problem) in
+    ap₂ (λ (degree : ℕ) (points : ℕ → List Point). F degree points (part_ends g cell face other other_face here) g.problem) s.degree (same_points g h s)
+    ∙ ap₂ (F h.dofs.degree (points_of h)) (same_ends g h s cell face other other_face here) s.problem
 
 same_block : (g h : Given) → IsSameGiven g h → (cell : ℕ) (visit : Visit) → block_of g cell visit ≡ block_of h cell visit
 unfolding block_of

@@ -1,5 +1,5 @@
 -- Refined meshes have dofs, and closed lines or a fault of the constraints.
-use Rattle.std.proofs.Common.{◌≡◌, ◌∙◌, sym, ap, refl, subst, ℕ, ◌<◌, ◌≤◌, inl, ⊎_elim, List, [], ◌∷◌, length, map, slice_index, slice_index_or, slice_set, Ok, Err, arith}
+use Rattle.std.proofs.Common.{◌≡◌, ◌∙◌, sym, ap, refl, subst, ℕ, ◌+◌, ◌<◌, ◌≤◌, inl, inr, ⊎_elim, List, [], ◌∷◌, length, map, slice_index, slice_index_or, slice_set, Ok, Err, arith}
 use Rattle.std.specs.Prelude.{◌^◌, not, is_some, Some, None, MatchOption}
 use Rattle.std.specs.declared.option.Option.{Option}
 use Rattle.std.specs.declared.result.Result.{Result}
@@ -11,8 +11,8 @@ use Rattle.std.proofs.lemmas.List.{get_or_past}
 use Rattle.std.proofs.lemmas.List.FromFn.{length-map-range_with_len, get_or-map-range_with_len}
 use Rattle.fem_text.specs.Words.{◌>>=◌, unless}
 use Rattle.fem_fixed.specs.Lists.{different, rank_among}
-use Rattle.corner_names.specs.Names.{Cell, root, node}
-use Rattle.corner_names.specs.Cells.{vertex}
+use Rattle.corner_names.specs.Names.{Cell, root, node, centre}
+use Rattle.corner_names.specs.Cells.{vertex, mid}
 use Rattle.hanging_refine.specs.Coarse.{corner_at}
 use Rattle.hanging_refine.specs.Refined.{RefinedMesh, named, active_cells, cell_in}
 use Rattle.hanging_refine.specs.Grown.{IsGrown}
@@ -22,7 +22,7 @@ use Rattle.affine_constraints.specs.declared.fault.CloseFault.{CloseFault}
 use Rattle.affine_constraints.specs.Lines.{AffineLine, Lines, lines_in}
 use Rattle.affine_constraints.specs.Closing.{AreClosed, IsClosedLine}
 use Rattle.affine_constraints.specs.Laws.{IsAnswer}
-use Rattle.dof_numbers.specs.Dofs.{Numbering, IsNumberingOf, same_name, cell_names, name_list, name_dof}
+use Rattle.dof_numbers.specs.Dofs.{IsDegree, Numbering, IsNumberingOf, same_name, cell_names, names_each, name_list, name_dof}
 use Rattle.problem_read.specs.Entries.{ProblemParts, Tie}
 use Rattle.constrained_mesh.specs.declared.fault.ConstraintFault.{ConstraintFault}
 use Rattle.constrained_mesh.specs.declared.fault.ConstraintFault.TheVariants.{UnknownNode, Twice, Cycle, Weight, Terms, NoMemory}
@@ -38,49 +38,69 @@ use Rattle.system_setup.specs.Endings.{of_constraints}
 use Rattle.system_setup.specs.SetUp.{nodes_of, LinesFor}
 
 -- the dofs of the cells
-cell_dofs : RefinedMesh → Cell → List ℕ
-cell_dofs forest x = map (name_dof 1 forest) (cell_names 1 forest.mesh x)
+cell_dofs : ℕ → RefinedMesh → Cell → List ℕ
+cell_dofs degree forest x = map (name_dof degree forest) (cell_names degree forest.mesh x)
 
 -- the dofs, if any, of the first nodes
-nodes_below : RefinedMesh → ℕ → List (Option ℕ)
-nodes_below forest n = map (λ k. rank_among same_name (name_list 1 forest) (node k)) (range_with_len 0 n)
+nodes_below : ℕ → RefinedMesh → ℕ → List (Option ℕ)
+nodes_below degree forest n = map (λ k. rank_among same_name (name_list degree forest) (node k)) (range_with_len 0 n)
 
-node_below : (forest : RefinedMesh) (n k : ℕ) → k < n → slice_index_or (nodes_below forest n) k None ≡ rank_among same_name (name_list 1 forest) (node k)
+node_below : (degree : ℕ) (forest : RefinedMesh) (n k : ℕ) → k < n → slice_index_or (nodes_below degree forest n) k None ≡ rank_among same_name (name_list degree forest) (node k)
 unfolding nodes_below
-node_below forest n k h = get_or-map-range_with_len (λ j. rank_among same_name (name_list 1 forest) (node j)) 0 n k k None h (omega arith)
+node_below degree forest n k h = get_or-map-range_with_len (λ j. rank_among same_name (name_list degree forest) (node j)) 0 n k k None h (omega arith)
 
-pub numbering_of : RefinedMesh → Numbering
-numbering_of forest = record { degree = 1; size = different same_name (name_list 1 forest); cells = map (cell_dofs forest) (active_cells forest); nodes = nodes_below forest (2 ^ 20) }
+pub numbering_of : ℕ → RefinedMesh → Numbering
+numbering_of degree forest =
+    record { degree = degree; size = different same_name (name_list degree forest); cells = map (cell_dofs degree forest) (active_cells forest); nodes = nodes_below degree forest (2 ^ 20) }
 
-pub of_degree_one : (forest : RefinedMesh) → (numbering_of forest).degree ≡ 1
+pub of_degree : (degree : ℕ) (forest : RefinedMesh) → (numbering_of degree forest).degree ≡ degree
 unfolding numbering_of
-of_degree_one forest = refl
+of_degree degree forest = refl
 
-row_of : (forest : RefinedMesh) (c : ℕ) (d : List ℕ) → c < length forest.cells → slice_index_or (map (cell_dofs forest) (active_cells forest)) c d ≡ cell_dofs forest (cell_in (active_cells forest) c)
-row_of forest c d h = map_in (cell_dofs forest) (active_cells forest) c (root 0) d (let l = map_length named forest.cells in omega arith)
+row_of : (degree : ℕ) (forest : RefinedMesh) (c : ℕ) (d : List ℕ) → c < length forest.cells →
+    slice_index_or (map (cell_dofs degree forest) (active_cells forest)) c d ≡ cell_dofs degree forest (cell_in (active_cells forest) c)
+row_of degree forest c d h = map_in (cell_dofs degree forest) (active_cells forest) c (root 0) d (let l = map_length named forest.cells in omega arith)
 
-dof_in_row : (forest : RefinedMesh) (x : Cell) (v : ℕ) → v < 4 → slice_index (cell_dofs forest x) v ≡ name_dof 1 forest (vertex (corner_at forest.mesh) x v)
+-- each place of a row has the dof of its name, and there are as many as names
+vertex_in_row : (degree : ℕ) (forest : RefinedMesh) (x : Cell) (v : ℕ) → v < 4 → slice_index (cell_dofs degree forest x) v ≡ name_dof degree forest (vertex (corner_at forest.mesh) x v)
 unfolding cell_dofs
-dof_in_row forest x v h = by_face (λ w. slice_index (map (name_dof 1 forest) (cell_names 1 forest.mesh x)) w ≡ name_dof 1 forest (vertex (corner_at forest.mesh) x w)) refl refl refl refl v h
+vertex_in_row degree forest x v h =
+    by_face (λ w. slice_index (map (name_dof degree forest) (cell_names degree forest.mesh x)) w ≡ name_dof degree forest (vertex (corner_at forest.mesh) x w)) refl refl refl refl v h
 
-four_in_row : (forest : RefinedMesh) (x : Cell) → length (cell_dofs forest x) ≡ 4
+middle_in_row : (forest : RefinedMesh) (x : Cell) (f : ℕ) → f < 4 → slice_index (cell_dofs 2 forest x) (4 + f) ≡ name_dof 2 forest (mid (corner_at forest.mesh) x f)
 unfolding cell_dofs
-four_in_row forest x = refl
+middle_in_row forest x f h =
+    by_face (λ g. slice_index (map (name_dof 2 forest) (cell_names 2 forest.mesh x)) (4 + g) ≡ name_dof 2 forest (mid (corner_at forest.mesh) x g)) refl refl refl refl f h
+
+centre_in_row : (forest : RefinedMesh) (x : Cell) → slice_index (cell_dofs 2 forest x) 8 ≡ name_dof 2 forest (centre x)
+unfolding cell_dofs
+centre_in_row forest x = refl
+
+all_in_row : (degree : ℕ) → IsDegree degree → (forest : RefinedMesh) (x : Cell) → length (cell_dofs degree forest x) ≡ names_each degree
+unfolding cell_dofs
+all_in_row degree (inl one) forest x = (let P : ℕ → Type 0 = λ d. length (cell_dofs d forest x) ≡ names_each d in subst P (sym one) refl)
+all_in_row degree (inr two) forest x = (let P : ℕ → Type 0 = λ d. length (cell_dofs d forest x) ≡ names_each d in subst P (sym two) refl)
+
+middle_of_row : (degree : ℕ) → degree ≡ 2 → (forest : RefinedMesh) (x : Cell) (f : ℕ) → f < 4 → slice_index (cell_dofs degree forest x) (4 + f) ≡ name_dof 2 forest (mid (corner_at forest.mesh) x f)
+middle_of_row degree two forest x f h = ap (λ d. slice_index (cell_dofs d forest x) (4 + f)) two ∙ middle_in_row forest x f h
+
+centre_of_row : (degree : ℕ) → degree ≡ 2 → (forest : RefinedMesh) (x : Cell) → slice_index (cell_dofs degree forest x) 8 ≡ name_dof 2 forest (centre x)
+centre_of_row degree two forest x = ap (λ d. slice_index (cell_dofs d forest x) 8) two ∙ centre_in_row forest x
 
 -- each refined mesh has its dofs
-pub numbering_is : (forest : RefinedMesh) → IsNumberingOf forest (numbering_of forest)
+pub numbering_is : (degree : ℕ) → IsDegree degree → (forest : RefinedMesh) → IsNumberingOf forest (numbering_of degree forest)
 unfolding numbering_of
-numbering_is forest =
-    let l : length (map (cell_dofs forest) (active_cells forest)) ≡ length forest.cells = map_length (cell_dofs forest) (active_cells forest) ∙ map_length named forest.cells in
+numbering_is degree is forest =
+    let l : length (map (cell_dofs degree forest) (active_cells forest)) ≡ length forest.cells = map_length (cell_dofs degree forest) (active_cells forest) ∙ map_length named forest.cells in
     record {
-      degree = inl refl;
+      degree = is;
       size = refl;
       count = l;
-      each = λ c d h. ap length (row_of forest c d (omega arith)) ∙ four_in_row forest (cell_in (active_cells forest) c);
-      cells = λ c v h a. ap (λ row. slice_index row v) (row_of forest c [] h) ∙ dof_in_row forest (cell_in (active_cells forest) c) v a;
-      middles = λ c f two h b. absurd (omega (arith, two));
-      centres = λ c two h. absurd (omega (arith, two));
-      nodes = λ n h. node_below forest (2 ^ 20) n h;
+      each = λ c d h. ap length (row_of degree forest c d (omega arith)) ∙ all_in_row degree is forest (cell_in (active_cells forest) c);
+      cells = λ c v h a. ap (λ row. slice_index row v) (row_of degree forest c [] h) ∙ vertex_in_row degree forest (cell_in (active_cells forest) c) v a;
+      middles = λ c f two h a. ap (λ row. slice_index row (4 + f)) (row_of degree forest c [] h) ∙ middle_of_row degree two forest (cell_in (active_cells forest) c) f a;
+      centres = λ c two h. ap (λ row. slice_index row 8) (row_of degree forest c [] h) ∙ centre_of_row degree two forest (cell_in (active_cells forest) c);
+      nodes = λ n h. node_below degree forest (2 ^ 20) n h;
     }
 
 -- the table, if there is one, has so many places
@@ -157,16 +177,16 @@ refusal_by (Weight dof) n = (_, refl)
 refusal_by (Terms dof) n = (_, refl)
 refusal_by NoMemory n = absurd (n refl)
 
-lined : (ids : List ℕ) (problem : ProblemParts) (forest : RefinedMesh) (answer : Answer) → IsConstrained (nodes_of ids forest) problem answer → (outcome : Result Table Refusal) × LinesFor ids problem forest outcome
-lined ids problem forest (Ok closed) w =
-    let n : ℕ = dof_count 1 forest in
-    let same : lines_in (table_below closed n) ≡ closed = table_lines closed n (λ dof h. constrained_free (nodes_of ids forest) problem closed w dof h) in
-    let P : Lines → Type 0 = λ lines. IsConstrained (nodes_of ids forest) problem (Ok lines) in
+lined : (degree : ℕ) (ids : List ℕ) (problem : ProblemParts) (forest : RefinedMesh) (answer : Answer) → IsConstrained (nodes_of degree ids forest) problem answer → (outcome : Result Table Refusal) × LinesFor degree ids problem forest outcome
+lined degree ids problem forest (Ok closed) w =
+    let n : ℕ = dof_count degree forest in
+    let same : lines_in (table_below closed n) ≡ closed = table_lines closed n (λ dof h. constrained_free (nodes_of degree ids forest) problem closed w dof h) in
+    let P : Lines → Type 0 = λ lines. IsConstrained (nodes_of degree ids forest) problem (Ok lines) in
     (Ok (table_below closed n), (table_length closed n, subst P (sym same) w))
-lined ids problem forest (Err fault) w =
-    let r = refusal_by fault (λ e. never (nodes_of ids forest) problem (let P : ConstraintFault → Type 0 = λ f. IsConstrained (nodes_of ids forest) problem (Err f) in subst P e w)) in
+lined degree ids problem forest (Err fault) w =
+    let r = refusal_by fault (λ e. never (nodes_of degree ids forest) problem (let P : ConstraintFault → Type 0 = λ f. IsConstrained (nodes_of degree ids forest) problem (Err f) in subst P e w)) in
     (Err r.0, (fault, w, r.1))
 
 -- a refined mesh that is grown has closed lines, or a refusal
-pub some_lines : (ids : List ℕ) (problem : ProblemParts) (forest : RefinedMesh) → IsGrown forest → (outcome : Result Table Refusal) × LinesFor ids problem forest outcome
-some_lines ids problem forest g = let t = some (nodes_of ids forest) problem (inl refl) g in lined ids problem forest t.0 t.1
+pub some_lines : (degree : ℕ) → IsDegree degree → (ids : List ℕ) (problem : ProblemParts) (forest : RefinedMesh) → IsGrown forest → (outcome : Result Table Refusal) × LinesFor degree ids problem forest outcome
+some_lines degree is ids problem forest g = let t = some (nodes_of degree ids forest) problem is g in lined degree ids problem forest t.0 t.1

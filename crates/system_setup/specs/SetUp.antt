@@ -16,13 +16,14 @@ use Rattle.constrained_mesh.specs.Steps.{RefinesBy}
 use Rattle.constrained_mesh.specs.MeshLines.{dof_count}
 use Rattle.constrained_mesh.specs.Nodes.{Nodes}
 use Rattle.constrained_mesh.specs.Constrained.{IsConstrained}
-use Rattle.mesh_visits.specs.declared.flags.Flags.{Flags}
 use Rattle.sparsity.specs.Coupled.{pairs_of}
 use Rattle.mesh_loop.specs.Setup.{MeshProblem, coupled_dofs}
 use Rattle.diagnostics.specs.declared.refusal.Refusal.{Refusal}
 use Rattle.diagnostics.specs.declared.refusal.Refusal.TheVariants.{Limit}
 use Rattle.diagnostics.specs.declared.kinds.LimitKind.TheVariants.{Entries}
+use Rattle.system_setup.specs.declared.scheme.Scheme.{Scheme}
 use Rattle.system_setup.specs.Endings.{of_mesh, of_refining, of_constraints}
+use Rattle.system_setup.specs.Scheme.{number_of}
 use Rattle.diagnostics.specs.Stages.{Then, Says}
 
 -- the coarse mesh, or its first fault
@@ -44,34 +45,34 @@ abbrev pub RefinedFurther : RefinedMesh → List ℕ → Result RefinedMesh Refu
 RefinedFurther forest cells (Ok finer) = (count : ℕ) × IsRefinedBy forest cells finer count
 RefinedFurther forest cells (Err refusal) = Says of_refining (λ fault. IsRefusal forest cells fault) refusal
 
--- the node ids of a mesh text, by position, and the refined mesh, with dofs of degree 1
-abbrev pub nodes_of : List ℕ → RefinedMesh → Nodes
-nodes_of ids forest = record { ids = ids; degree = 1; forest = forest }
+-- the node ids of a mesh text, by position, and the refined mesh, with dofs of this degree
+abbrev pub nodes_of : ℕ → List ℕ → RefinedMesh → Nodes
+nodes_of degree ids forest = record { ids = ids; degree = degree; forest = forest }
 
--- the closed lines, a place for each dof, or the first fault of the constraints
-abbrev pub LinesFor : List ℕ → ProblemParts → RefinedMesh → Result (List (Option AffineLine)) Refusal → Type 0
-LinesFor ids problem forest (Ok table) = (length table ≡ dof_count 1 forest) × IsConstrained (nodes_of ids forest) problem (Ok (lines_in table))
-LinesFor ids problem forest (Err refusal) = Says of_constraints (λ fault. IsConstrained (nodes_of ids forest) problem (Err fault)) refusal
+-- the closed lines of dofs of this degree, a place for each dof, or the first fault of the constraints
+abbrev pub LinesFor : ℕ → List ℕ → ProblemParts → RefinedMesh → Result (List (Option AffineLine)) Refusal → Type 0
+LinesFor degree ids problem forest (Ok table) = (length table ≡ dof_count degree forest) × IsConstrained (nodes_of degree ids forest) problem (Ok (lines_in table))
+LinesFor degree ids problem forest (Err refusal) = Says of_constraints (λ fault. IsConstrained (nodes_of degree ids forest) problem (Err fault)) refusal
 
 -- the set-up is made of these
-pub record IsMadeOf (forest : RefinedMesh) (problem : ProblemParts) (table : List (Option AffineLine)) (flags : Flags) (s : MeshProblem) : Type 0 where
+pub record IsMadeOf (scheme : Scheme) (forest : RefinedMesh) (problem : ProblemParts) (table : List (Option AffineLine)) (s : MeshProblem) : Type 0 where
   pub forest_is : s.given.forest ≡ forest
   pub problem_is : s.given.problem ≡ problem
-  pub degree : s.given.dofs.degree ≡ 1
+  pub degree_is : s.given.dofs.degree ≡ number_of scheme.degree
   pub numbered : IsNumberingOf forest s.given.dofs
   pub lines_are : s.closed ≡ table
-  pub flags_are : s.flags ≡ flags
+  pub flags_are : s.flags ≡ scheme.flags
 
 -- the set-up, or that its pattern has too many entries
-abbrev pub PatternedFor : Flags → ProblemParts → RefinedMesh → List (Option AffineLine) → Result MeshProblem Refusal → Type 0
-PatternedFor flags problem forest table (Ok s) = IsMadeOf forest problem table flags s × (pairs_of (coupled_dofs s) ≤ 33554432)
-PatternedFor flags problem forest table (Err refusal) =
-    (s : MeshProblem) × IsMadeOf forest problem table flags s × (33554432 < pairs_of (coupled_dofs s)) × (refusal ≡ Limit Entries)
+abbrev pub PatternedFor : Scheme → ProblemParts → RefinedMesh → List (Option AffineLine) → Result MeshProblem Refusal → Type 0
+PatternedFor scheme problem forest table (Ok s) = IsMadeOf scheme forest problem table s × (pairs_of (coupled_dofs s) ≤ 33554432)
+PatternedFor scheme problem forest table (Err refusal) =
+    (s : MeshProblem) × IsMadeOf scheme forest problem table s × (33554432 < pairs_of (coupled_dofs s)) × (refusal ≡ Limit Entries)
 
 -- of a refined mesh
-abbrev pub SetUpOn : Flags → List ℕ → ProblemParts → RefinedMesh → Result MeshProblem Refusal → Type 0
-SetUpOn flags ids problem forest = Then (LinesFor ids problem forest) (PatternedFor flags problem forest)
+abbrev pub SetUpOn : Scheme → List ℕ → ProblemParts → RefinedMesh → Result MeshProblem Refusal → Type 0
+SetUpOn scheme ids problem forest = Then (LinesFor (number_of scheme.degree) ids problem forest) (PatternedFor scheme problem forest)
 
 -- of a mesh and a problem: the coarse mesh, its refinement, the lines, and the pattern
-abbrev pub IsSetUp : Flags → Mesh → ProblemParts → Result MeshProblem Refusal → Type 0
-IsSetUp flags parts problem = Then (CoarseOf parts.points parts.quads parts.lines) (λ mesh. Then (RefinedFrom mesh problem) (SetUpOn flags parts.ids problem))
+abbrev pub IsSetUp : Scheme → Mesh → ProblemParts → Result MeshProblem Refusal → Type 0
+IsSetUp scheme parts problem = Then (CoarseOf parts.points parts.quads parts.lines) (λ mesh. Then (RefinedFrom mesh problem) (SetUpOn scheme parts.ids problem))

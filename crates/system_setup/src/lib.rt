@@ -3,6 +3,8 @@
 #![tactic(auto)]
 
 mod endings;
+mod scheme;
 mod steps;
 
+pub use scheme::{Degree, Scheme};
 pub use steps::{refined_further, refined_mesh, set_up, set_up_on};

@@ -2,9 +2,11 @@ ghost use Rattle.std.specs.Prelude.{◌≡◌, ◌≤◌, ◌^◌, length, Ok, I
 ghost use Rattle.dof_numbers.specs.Dofs.{IsNumberingOf};
 ghost use Rattle.ucd_read.specs.Bounds.{IsBounded};
 ghost use Rattle.diagnostics.specs.Stages.{EndsIn};
+ghost use Rattle.system_setup.specs.Scheme.{number_of};
 ghost use Rattle.system_setup.specs.SetUp.{CoarseOf, RefinedFrom, ForestOf, RefinedFurther, LinesFor, PatternedFor, SetUpOn, IsSetUp};
 
 use crate::endings::{constraints_ending, mesh_ending, pattern_ending, refining_ending};
+use crate::scheme::{Degree, Scheme};
 use affine_constraints::Closed;
 use constrained_mesh::{constraint_lines, refine_by_steps};
 use diagnostics::Ending;
@@ -12,14 +14,14 @@ use dof_numbers::Dofs;
 use fem_fixed::MeshParts;
 use hanging_refine::Forest;
 use mesh_loop::Setup;
-use mesh_visits::Flags;
 use node_ids::NodeIds;
 use problem_read::Problem;
 use quad_mesh::QuadMesh;
 use std::alloc::Global;
 use std::thread::Threads;
 
-/// The set-up of the system of a mesh and a problem, with the visits of the run of these flags.
+/// The set-up of the system of a mesh and a problem, with dofs of the scheme's degree and the visits of the run of its
+/// flags.
 ///
 /// # Errors
 ///
@@ -30,22 +32,22 @@ pub fn set_up(
     alloc: Global,
     parts: MeshParts,
     problem: Problem,
-    flags: Flags,
+    scheme: Scheme,
 ) -> Result<Setup, Ending>
     requires bounded { IsBounded parts }
     requires ids { length parts.ids ≤ 2 ^ 20 }
-    ensures ok { IfOk result (λ setup. IsSetUp flags parts problem (Ok setup)) }
-    ensures refused { IfErr result (EndsIn (IsSetUp flags parts problem)) }
+    ensures ok { IfOk result (λ setup. IsSetUp scheme parts problem (Ok setup)) }
+    ensures refused { IfErr result (EndsIn (IsSetUp scheme parts problem)) }
 {
     let (ids, forest) = match refined_mesh(alloc, parts, &problem) {
         Ok(made) => made,
         Err(ending) => return Err(ending),
     };
-    set_up_on(rt, alloc, ids.as_slice(), forest, problem, flags)
+    set_up_on(rt, alloc, ids.as_slice(), forest, problem, scheme)
 }
 
-/// The set-up of the system of a problem on a refined mesh, with the node ids of the mesh text, by position, and with the
-/// visits of the run of these flags.
+/// The set-up of the system of a problem on a refined mesh, with the node ids of the mesh text, by position, with dofs of the
+/// scheme's degree, and with the visits of the run of its flags.
 ///
 /// # Errors
 ///
@@ -56,14 +58,14 @@ pub fn set_up_on(
     ids: &[u32],
     forest: Forest,
     problem: Problem,
-    flags: Flags,
+    scheme: Scheme,
 ) -> Result<Setup, Ending>
     requires ids { length ids.now ≤ 2 ^ 20 }
-    ensures ok { IfOk result (λ setup. SetUpOn flags ids.now problem forest (Ok setup)) }
-    ensures refused { IfErr result (EndsIn (SetUpOn flags ids.now problem forest)) }
+    ensures ok { IfOk result (λ setup. SetUpOn scheme ids.now problem forest (Ok setup)) }
+    ensures refused { IfErr result (EndsIn (SetUpOn scheme ids.now problem forest)) }
 {
-    match numbered_lines(alloc, &forest, ids, &problem) {
-        Ok((dofs, closed)) => with_pattern(rt, alloc, forest, dofs, closed, problem, flags),
+    match numbered_lines(alloc, scheme.degree, &forest, ids, &problem) {
+        Ok((dofs, closed)) => with_pattern(rt, alloc, forest, dofs, closed, problem, scheme),
         Err(ending) => Err(ending),
     }
 }
@@ -139,18 +141,19 @@ fn refined(alloc: Global, mesh: QuadMesh, problem: &Problem) -> Result<Forest, E
 /// The numbers of the dofs, and the closed lines of the constrained ones.
 fn numbered_lines(
     alloc: Global,
+    degree: Degree,
     forest: &Forest,
     ids: &[u32],
     problem: &Problem,
 ) -> Result<(Dofs, Closed), Ending>
     requires ids { length ids.now ≤ 2 ^ 20 }
-    ensures degree { IfOk result (λ made. made.0.degree ≡ 1) }
+    ensures degree { IfOk result (λ made. made.0.degree ≡ number_of degree) }
     ensures numbered { IfOk result (λ made. IsNumberingOf forest.now made.0) }
     ensures size { IfOk result (λ made. length made.1 ≡ made.0.size) }
-    ensures ok { IfOk result (λ made. LinesFor ids.now problem.now forest.now (Ok made.1)) }
-    ensures refused { IfErr result (EndsIn (LinesFor ids.now problem.now forest.now)) }
+    ensures ok { IfOk result (λ made. LinesFor (number_of degree) ids.now problem.now forest.now (Ok made.1)) }
+    ensures refused { IfErr result (EndsIn (LinesFor (number_of degree) ids.now problem.now forest.now)) }
 {
-    let dofs = Dofs::number(alloc, forest, 1)?;
+    let dofs = Dofs::number(alloc, forest, degree.number())?;
     match closed_lines(alloc, forest, &dofs, ids, problem) {
         Ok(closed) => Ok((dofs, closed)),
         Err(ending) => Err(ending),
@@ -165,11 +168,10 @@ fn closed_lines(
     ids: &[u32],
     problem: &Problem,
 ) -> Result<Closed, Ending>
-    requires degree { dofs.now.degree ≡ 1 }
     requires numbered { IsNumberingOf forest.now dofs.now }
     requires ids { length ids.now ≤ 2 ^ 20 }
-    ensures ok { IfOk result (λ closed. LinesFor ids.now problem.now forest.now (Ok closed)) }
-    ensures refused { IfErr result (EndsIn (LinesFor ids.now problem.now forest.now)) }
+    ensures ok { IfOk result (λ closed. LinesFor dofs.now.degree ids.now problem.now forest.now (Ok closed)) }
+    ensures refused { IfErr result (EndsIn (LinesFor dofs.now.degree ids.now problem.now forest.now)) }
     ensures size { IfOk result (λ closed. length closed ≡ dofs.now.size) }
 {
     let nodes = NodeIds::new(alloc, ids)?;
@@ -187,15 +189,15 @@ fn with_pattern(
     dofs: Dofs,
     closed: Closed,
     problem: Problem,
-    flags: Flags,
+    scheme: Scheme,
 ) -> Result<Setup, Ending>
-    requires degree { dofs.degree ≡ 1 }
+    requires degree { dofs.degree ≡ number_of scheme.degree }
     requires numbered { IsNumberingOf forest dofs }
     requires size { length closed ≡ dofs.size }
-    ensures ok { IfOk result (λ setup. PatternedFor flags problem forest closed (Ok setup)) }
-    ensures refused { IfErr result (EndsIn (PatternedFor flags problem forest closed)) }
+    ensures ok { IfOk result (λ setup. PatternedFor scheme problem forest closed (Ok setup)) }
+    ensures refused { IfErr result (EndsIn (PatternedFor scheme problem forest closed)) }
 {
-    match Setup::build(rt, alloc, forest, dofs, closed, problem, flags) {
+    match Setup::build(rt, alloc, forest, dofs, closed, problem, scheme.flags) {
         Ok(setup) => Ok(setup),
         Err(fault) => Err(pattern_ending(fault)),
     }

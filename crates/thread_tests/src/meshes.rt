@@ -2,7 +2,7 @@
 use mesh_loop::{Flags, Interior, Setup};
 use problem_read::read_problem;
 use std::thread::Threads;
-use system_setup::set_up;
+use system_setup::{Degree, Scheme, set_up};
 use ucd_read::read_ucd;
 
 /// A grid of 4 by 4 unit squares, of which the sixth has material 2. Its first colour has three cells.
@@ -64,14 +64,17 @@ pub fn set_up_of<R: Threads + Sync + AllocGlobal>(rt: &R, mesh: Mesh) -> Option<
         Ok(problem) => problem,
         Err(_) => return None,
     };
-    let flags = Flags {
-        cells: true,
-        boundary: true,
-        interior,
-        cells_after_faces: false,
-        own: None,
-        ghost_parts: Interior::None,
-        ghost_cells: false,
+    let scheme = Scheme {
+        degree: Degree::One,
+        flags: Flags {
+            cells: true,
+            boundary: true,
+            interior,
+            cells_after_faces: false,
+            own: None,
+            ghost_parts: Interior::None,
+            ghost_cells: false,
+        },
     };
-    set_up(rt, rt.alloc(), parts, problem, flags).ok()
+    set_up(rt, rt.alloc(), parts, problem, scheme).ok()
 }

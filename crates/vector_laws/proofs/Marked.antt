@@ -1,5 +1,5 @@
 -- Refined meshes that are the same have the same marks by a vector, and each refined mesh has marks.
-use Rattle.std.proofs.Common.{◌≡◌, ◌∙◌, sym, ap, ap₂, refl, subst, ℕ, ℤ, ◌≤◌, ◌^◌, List, [], ◌∷◌, ◌++◌, length, map, sum, slice_index_or}
+use Rattle.std.proofs.Common.{◌≡◌, ◌∙◌, sym, ap, ap₂, refl, subst, ℕ, ℤ, ◌≤◌, ◌^◌, inl, List, [], ◌∷◌, ◌++◌, length, map, sum, slice_index_or}
 use mathlib.Core.Path.{fun_ext}
 use Rattle.std.specs.Prelude.{All, unsigned_abs, Ok, Err}
 use Rattle.std.specs.declared.result.Result.{Result}
@@ -36,7 +36,7 @@ use Rattle.system_laws.proofs.Forests.{same_count, by_cells}
 use Rattle.system_laws.proofs.Visits.{same_interior}
 use Rattle.system_laws.proofs.Lines.{same_size}
 use Rattle.system_laws.proofs.One.{same_rows}
-use Rattle.system_laws.proofs.Tables.{numbering_of, of_degree_one, numbering_is}
+use Rattle.system_laws.proofs.Tables.{numbering_of, of_degree, numbering_is}
 use Rattle.system_laws.proofs.Outcomes.{Agree, one_after, HasAnOutcome, some_after}
 use Rattle.vector_texts.specs.Endings.{of_indicators}
 use Rattle.vector_texts.specs.Fitting.{FittedTo}
@@ -128,18 +128,18 @@ same_etas_told list u v h k = cc
 
 one_indicated : (a b : RefinedMesh) → IsSameForest a b → (x : List ℤ) → Agree (Indicated a x) (Indicated b x)
 one_indicated a b s x (Ok u) (Ok v) h k =
-    let rows = same_rows a b s h.0 k.0 h.1.degree k.1.degree h.1.numbered k.1.numbered in
+    let rows = same_rows 1 (inl refl) a b s h.0 k.0 h.1.degree k.1.degree h.1.numbered k.1.numbered in
     ap Ok (same_etas_told (indicators_of b k.0 x) u v (sym (same_indicators a b s h.0 k.0 rows x) ∙ h.2) k.2)
 one_indicated a b s x (Ok u) (Err q) h k =
-    let rows = same_rows a b s h.0 k.0 h.1.degree k.1.degree h.1.numbered k.1.numbered in
+    let rows = same_rows 1 (inl refl) a b s h.0 k.0 h.1.degree k.1.degree h.1.numbered k.1.numbered in
     let f = of_cell (indicators_of b k.0 x) k.2.0 q k.2.1 k.2.2 in
     absurd (never_both (indicators_of b k.0 x) u f.cell f.fault (sym (same_indicators a b s h.0 k.0 rows x) ∙ h.2) f.is)
 one_indicated a b s x (Err r) (Ok v) h k =
-    let rows = same_rows a b s h.0 k.0 h.1.degree k.1.degree h.1.numbered k.1.numbered in
+    let rows = same_rows 1 (inl refl) a b s h.0 k.0 h.1.degree k.1.degree h.1.numbered k.1.numbered in
     let f = of_cell (indicators_of a h.0 x) h.2.0 r h.2.1 h.2.2 in
     absurd (never_both (indicators_of b k.0 x) v f.cell f.fault k.2 (sym (same_indicators a b s h.0 k.0 rows x) ∙ f.is))
 one_indicated a b s x (Err r) (Err q) h k =
-    let rows = same_rows a b s h.0 k.0 h.1.degree k.1.degree h.1.numbered k.1.numbered in
+    let rows = same_rows 1 (inl refl) a b s h.0 k.0 h.1.degree k.1.degree h.1.numbered k.1.numbered in
     let f = of_cell (indicators_of a h.0 x) h.2.0 r h.2.1 h.2.2 in
     let g = of_cell (indicators_of b k.0 x) k.2.0 q k.2.1 k.2.2 in
     ap Err (f.told ∙ same_cell (indicators_of b k.0 x) f.cell g.cell f.fault g.fault (sym (same_indicators a b s h.0 k.0 rows x) ∙ f.is) g.is ∙ sym g.told)
@@ -157,21 +157,21 @@ module _ (one_marks : MarksAreUnique) where
       (subst (λ n. Agree (FittedTo (dof_count 1 a) (2 ^ 31) values) (FittedTo n (2 ^ 31) values)) (same_size 1 a b s) (one_fitted (dof_count 1 a) (2 ^ 31) values))
       (λ x fits. one_after (Indicated a x) (Indicated b x) (MarkedBy count) (MarkedBy count) (one_indicated a b s x) (λ etas is. one_marked_by count etas))
 
-is_function : (forest : RefinedMesh) (values x : List ℤ) → FittedTo (dof_count 1 forest) (2 ^ 31) values (Ok x) → IsFunctionOn forest (numbering_of forest) x
+is_function : (forest : RefinedMesh) (values x : List ℤ) → FittedTo (dof_count 1 forest) (2 ^ 31) values (Ok x) → IsFunctionOn forest (numbering_of 1 forest) x
 is_function forest values x fits = record {
-  numbered = numbering_is forest;
-  degree = of_degree_one forest;
-  count = ap length fits.0 ∙ fits.1.as_many ∙ sym (many_dofs forest (numbering_of forest) (numbering_is forest) (of_degree_one forest));
+  numbered = numbering_is 1 (inl refl) forest;
+  degree = of_degree 1 forest;
+  count = ap length fits.0 ∙ fits.1.as_many ∙ sym (many_dofs forest (numbering_of 1 forest) (numbering_is 1 (inl refl) forest) (of_degree 1 forest));
   small = subst (λ list. All (λ value. unsigned_abs value ≤ 2 ^ 31) list) (sym fits.0) fits.1.small;
 }
 
-told_so : (forest : RefinedMesh) (x : List ℤ) → IsFunctionOn forest (numbering_of forest) x → (list : Result (List ℕ) (ℕ × LocalFault)) → indicators_of forest (numbering_of forest) x ≡ list →
+told_so : (forest : RefinedMesh) (x : List ℤ) → IsFunctionOn forest (numbering_of 1 forest) x → (list : Result (List ℕ) (ℕ × LocalFault)) → indicators_of forest (numbering_of 1 forest) x ≡ list →
     HasAnOutcome (Indicated forest x)
-told_so forest x function (Ok etas) is = (Ok etas, (numbering_of forest, function, is))
-told_so forest x function (Err (cell, fault)) is = (Err (refusals.Local cell (of_local fault)), (numbering_of forest, function, (indicators.Local cell fault, is, refl)))
+told_so forest x function (Ok etas) is = (Ok etas, (numbering_of 1 forest, function, is))
+told_so forest x function (Err (cell, fault)) is = (Err (refusals.Local cell (of_local fault)), (numbering_of 1 forest, function, (indicators.Local cell fault, is, refl)))
 
 pub some_marking : HaveAMarking
 some_marking count values forest =
     some_after (FittedTo (dof_count 1 forest) (2 ^ 31) values) (λ x. Then (Indicated forest x) (MarkedBy count)) (some_fitted (dof_count 1 forest) (2 ^ 31) values)
-    (λ x fits. some_after (Indicated forest x) (MarkedBy count) (told_so forest x (is_function forest values x fits) (indicators_of forest (numbering_of forest) x) refl)
+    (λ x fits. some_after (Indicated forest x) (MarkedBy count) (told_so forest x (is_function forest values x fits) (indicators_of forest (numbering_of 1 forest) x) refl)
     (λ etas is. let marks = some_marks etas count in (Ok (etas, marks.0), (refl, marks.1))))

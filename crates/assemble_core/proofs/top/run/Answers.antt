@@ -1,5 +1,3 @@
-use Rattle.std.proofs.Common.{map}
-use Rattle.std.specs.Prelude.{string_bytes}
 use Rattle.run_words.specs.BatchWords.{seen_batch}
 use Rattle.assemble_core.specs.Batch.{without_batch, with_batch}
 use Rattle.assemble_core.proofs.top.run.Goals as goal

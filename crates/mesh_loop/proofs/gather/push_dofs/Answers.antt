@@ -4,14 +4,7 @@ use Rattle.std.proofs.lemmas.List.Elements.{All-append}
 use Rattle.cell_blocks.specs.Blocks.{Given, dofs_of, visit_dofs}
 use Rattle.mesh_visits.specs.declared.visit.Visit.{Visit}
 use Rattle.mesh_loop.specs.Parts.{shown}
-use Rattle.mesh_loop.proofs.MasterSteps.{ends_below}
 use Rattle.mesh_loop.proofs.gather.push_dofs.Goals as goal
-
-pub returns-in_ok-extend_from_slice-in-Boundary-clause-below : goal.returns-in_ok-extend_from_slice-in-Boundary-clause-below
-returns-in_ok-extend_from_slice-in-Boundary-clause-below c =
-    let given : Given = (shown c.args.source.now).given in
-    let P : Visit → Type 0 = λ visit. All (λ dof. dof < given.dofs.size) (visit_dofs given c.args.cell visit) in
-    subst P (sym c.in-Boundary.is) (ends_below given c.args.cell c.in-Boundary.face c.requires.matched.numbered c.requires.cell)
 
 pub returns-in_ok-push_cell_dofs-in-Interior-2-clause-below : goal.returns-in_ok-push_cell_dofs-in-Interior-2-clause-below
 returns-in_ok-push_cell_dofs-in-Interior-2-clause-below c =

@@ -7,11 +7,11 @@ use Rattle.run_targets.proofs.system.prepare_on.Goals as goal
 
 pub returns-clause-ok : goal.returns-clause-ok
 returns-clause-ok g c =
-    subst (λ flags. IfOk c.set_up_on.result (λ s. SetUpOn flags c.args.ids.now c.args.problem c.args.forest (Ok s))) c.flags_of.ensures c.set_up_on.ensures.ok
+    subst (λ scheme. IfOk c.set_up_on.result (λ s. SetUpOn scheme c.args.ids.now c.args.problem c.args.forest (Ok s))) c.scheme_of.ensures c.set_up_on.ensures.ok
 
 pub returns-clause-few : goal.returns-clause-few
-returns-clause-few g c = few_result_on c.flags_of.result c.args.ids.now c.args.problem c.args.forest c.set_up_on.result c.set_up_on.ensures.ok
+returns-clause-few g c = few_result_on c.scheme_of.result c.args.ids.now c.args.problem c.args.forest c.set_up_on.result c.set_up_on.ensures.ok
 
 pub returns-clause-ends : goal.returns-clause-ends
 returns-clause-ends g c =
-    subst (λ flags. IfErr c.set_up_on.result (EndsIn (SetUpOn flags c.args.ids.now c.args.problem c.args.forest))) c.flags_of.ensures c.set_up_on.ensures.refused
+    subst (λ scheme. IfErr c.set_up_on.result (EndsIn (SetUpOn scheme c.args.ids.now c.args.problem c.args.forest))) c.scheme_of.ensures c.set_up_on.ensures.refused
