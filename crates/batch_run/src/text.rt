@@ -15,6 +15,9 @@ use std::alloc::Global;
 use std::sync::Wait;
 use std::thread::Threads;
 
+// No line of a job is longer.
+const LINE_ROOM: usize = 32;
+
 /// The text of a batch: for each job in their order the line `job K status S`, with its number, counted from 0, and its status,
 /// and behind it the text that it writes, or its line. Workers take the jobs one after another; a worker passes the gate with the
 /// number of a job before it runs it. It may wait, since a worker that found a job taken tries again.
@@ -40,11 +43,22 @@ fn text_of(alloc: Global, answers: &[Answer<'_>]) -> Result<Vec<u8>, NoMemory>
     requires { length answers.now ≤ 65536 }
     ensures { IfOk result (λ text. IsOutputOf answers.now text.items) }
 {
-    let mut text = Vec::new(alloc);
+    let mut text = Vec::with_capacity(alloc, room_for(answers))?;
     for (job, answer) in answers.iter().enumerate() {
         push_part(&mut text, job as u32, answer.outcome())?;
     }
     Ok(text)
+}
+
+// Room for the texts and their lines, so that no text is moved when the next one comes. (There is no clause: a text with less room
+// grows.)
+fn room_for(answers: &[Answer<'_>]) -> usize {
+    let mut room = 0usize;
+    for answer in answers {
+        let text = answer.outcome().text.len();
+        room = room.saturating_add(text).saturating_add(LINE_ROOM);
+    }
+    room
 }
 
 // Adds the line of a job and its text.
