@@ -96,6 +96,13 @@ def cases():
     vector = [*mesh, "--mode", "product", "--vector", "x.mtx"]
     yield "a vector of 268,435,456 blanks", {"mesh.inp": text(SQUARE), "x.mtx": blanks(268_435_456)}, vector, 14, b"assemble: 14 VectorText line 1 Banner\n"
     yield "a vector of one blank more", {"mesh.inp": text(SQUARE), "x.mtx": blanks(268_435_457)}, vector, 9, b"assemble: 9 Limit VectorSize\n"
+    batch, job = ["--batch", "batch.txt"], "--mesh mesh.inp"
+    yield "65,536 jobs", {"mesh.inp": text(SQUARE), "batch.txt": text([job] * 65_536)}, batch, 0, b"job 0 status 0\n"
+    yield "one job more", {"mesh.inp": text(SQUARE), "batch.txt": text([job] * 65_537)}, batch, 9, b"assemble: 9 Limit BatchCount line 65537\n"
+    yield "a batch of 268,435,456 blanks", {"batch.txt": blanks(268_435_456)}, batch, 0, b""
+    yield "a batch of one blank more", {"batch.txt": blanks(268_435_457)}, batch, 9, b"assemble: 9 Limit BatchSize\n"
+    yield "a batch and a mesh of one byte more", {"mesh.inp": blanks(268_435_441), "batch.txt": text([job])}, batch, 9, b"assemble: 9 Limit BatchSize\n"
+    yield "a batch and a mesh of so many bytes", {"mesh.inp": blanks(268_435_440), "batch.txt": text([job])}, batch, 0, b"job 0 status 3\n"
     yield "1,048,576 nodes", {"mesh.inp": text(scattered(262_144))}, [*mesh, "--summary"], 0, b"cells 262144\n"
     yield "1,048,577 nodes", {"mesh.inp": text(["1048577 0 0 0 0"])}, mesh, 9, b"assemble: 9 Limit MeshCount line 1\n"
     yield "33,554,432 pairs", groups(8184, 2), PATTERN, 0, b""
